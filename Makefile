@@ -6,16 +6,23 @@ DESTDIR ?=
 PREFIX ?= /usr/local
 FACETS ?= 200000
 BASE ?= HEAD
-# how many processes share the proof of the library's calls; the toolchain chooses if it is empty
-LIBRARY_JOBS ?=
+# what `make library` and `make wheel` are for: native is this machine
+TARGET = native
+TARGETS := native aarch64-linux x86_64-windows
+$(if $(filter $(TARGET),$(TARGETS)),,$(error TARGET is $(TARGET), and not one of $(TARGETS)))
 CRATE := crates/stlslice_program
 PROGRAM := build/stlslice
 SOURCES := crates.txt $(shell find crates -path '*/out' -prune -o -type f \( -name '*.rt' -o -name '*.antt' \) -print)
 
-LIBRARY_CRATE := crates/stlslice_c
 LIBRARY := build/library/libstlslice.so.$(VERSION)
 # empty if the library isn't built, or isn't to be installed
 LIBRARY_BUILT := $(wildcard $(LIBRARY))
+LIBRARY_OF_native := $(LIBRARY)
+LIBRARY_OF_aarch64-linux := build/aarch64-linux/libstlslice.so.$(VERSION)
+LIBRARY_OF_x86_64-windows := build/x86_64-windows/stlslice.dll
+# the module of LLVM that the library is compiled from; those for other machines, and the page, are compiled from it too
+LLVM_MODULE := build/made/module.bc
+LIBRARY_SOURCES := include/stlslice.h library/build library/edge.c library/exports.map library/stlslice.pc
 
 SHARE = $(PREFIX)/share
 LIB = $(PREFIX)/lib
@@ -36,10 +43,9 @@ NEEDS_RT = @command -v rt > /dev/null || { echo "$(MISSING)" >&2; exit 1; }
 
 all: $(PROGRAM)  ## proves and builds the program, and leaves it at build/stlslice
 
-# The libraries side by side; then `rt run` proves the program, builds it and runs it once, on the stored input.
+# `rt run` proves the libraries and the program, builds it and runs it once, on the stored input.
 $(PROGRAM): $(SOURCES)
 	$(NEEDS_RT)
-	python3 tools/prove.py $(CRATE)
 	cd $(CRATE) && rt run -- $$(cat args) < stdin
 	mkdir -p build
 	cp $(CRATE)/out/stlslice_program $@
@@ -53,34 +59,35 @@ help:  ## lists these targets
 
 check:  ## what a change touches, in minutes; BASE=REV says what it is compared with (HEAD)
 	$(NEEDS_RT)
-	@tools/check.py --base $(BASE)
+	@tools/check.py $(BASE)
 
 test:  ## the gate: every proof, edit and test, and what ships; leaves what it built in build/
 	$(NEEDS_RT)
 	@tools/gate.py $(CRATE)/out/stlslice_program
 	@mkdir -p build && cp $(CRATE)/out/stlslice_program build/stlslice
 
-library: $(LIBRARY)  ## proves and builds the library for C, and leaves it in build/library
+library: $(LIBRARY_OF_$(TARGET))  ## proves and builds the library for C, in build/library; for another TARGET in build/TARGET
 
-$(LIBRARY): $(SOURCES) include/stlslice.h library/build library/edge.c library/exports.map
+$(LIBRARY): $(SOURCES) $(LIBRARY_SOURCES) library/proved.py
 	$(NEEDS_RT)
-	python3 tools/prove.py $(LIBRARY_CRATE)
-	cd $(LIBRARY_CRATE) && rt lib $(if $(LIBRARY_JOBS),--jobs $(LIBRARY_JOBS))
-	CC="$(CC)" library/build $(LIBRARY_CRATE)/out/libstlslice_c.a $(VERSION) $(PREFIX) build/library
+	mkdir -p build/made
+	library/proved.py build/made/proved.a $(LLVM_MODULE)
+	CC="$(CC)" library/build native build/made/proved.a build/library $(VERSION) $(PREFIX)
 
-wheel: $(LIBRARY)  ## a wheel of the Python module and the library, in build/
+$(LIBRARY_OF_aarch64-linux) $(LIBRARY_OF_x86_64-windows): $(LIBRARY) $(LIBRARY_SOURCES) library/rattle_heap.ll
+	library/build $(notdir $(@D)) $(LLVM_MODULE) $(@D) $(VERSION) $(PREFIX)
+
+wheel: $(LIBRARY_OF_$(TARGET))  ## a wheel of the Python module and the library for TARGET, in build/
 	@mkdir -p build
-	python3 python/wheel_of_library.py $(VERSION) $(LIBRARY) build
+	python3 python/wheel_of_library.py $(VERSION) $< build
 
 test-library: $(LIBRARY) $(PROGRAM)  ## compares the library's layers, in C, C++ and Python, with the program's
 	CC="$(CC)" CXX="$(CXX)" library/test build/library $(PROGRAM)
 
-# The module of which `rt lib` compiled the library; the page is made of it.
 web: build/web/preview.html  ## a page that slices in a browser: the library as WebAssembly, in build/web/preview.html
 
-build/web/preview.html: $(LIBRARY) docs/refused.md $(wildcard library/web/*.* library/web/build) $(wildcard examples/*.stl)
-	library/web/module.py $(LIBRARY_CRATE) build/library/proved.a build/web/module.bc
-	CC="$(CC)" library/web/build build/web/module.bc build/web
+build/web/preview.html: $(LIBRARY) $(LIBRARY_SOURCES) library/rattle_heap.ll docs/refused.md $(wildcard library/web/*.* examples/*.stl)
+	CC="$(CC)" library/build page $(LLVM_MODULE) build/web $(VERSION) $(PREFIX)
 
 # Without Chromium the test ends with status 77 and one line: it was skipped.
 test-web: build/web/preview.html $(PROGRAM)  ## tries that page in a headless Chromium, beside the program and the library

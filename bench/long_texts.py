@@ -15,7 +15,7 @@ import sys
 import time
 
 sys.path.insert(0, os.path.join(os.path.dirname(os.path.dirname(os.path.abspath(__file__))), "tests"))
-from parts import box, facet, text  # noqa: E402
+from parts import box, text  # noqa: E402
 
 MB = 1_000_000
 LENGTH = 2_000 * MB
@@ -28,9 +28,9 @@ SLICE = ["--pitch", "100", "--layer", "1000"]
 
 CUBE = box((0, 0, 0), (1, 1, 1))
 MESH = text(CUBE).encode()
-FACETS = "".join(facet(*corners) for corners in CUBE).encode()
+FACETS = MESH[len("solid part\n"):-len("endsolid part\n")]
 HEAD = b"solid part\nfacet normal 0 0 "
-TAIL = facet(*CUBE[0]).encode()[len("facet normal 0 0 0"):] + "".join(facet(*it) for it in CUBE[1:]).encode() + b"endsolid\n"
+TAIL = FACETS[len("facet normal 0 0 0"):] + b"endsolid\n"
 BOX = b"facets 12 box 0 0 0 1000 1000 1000\n"
 IMAGE = b"P4\n10 10\n" + b"\xff\xc0" * 10
 

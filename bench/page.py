@@ -72,7 +72,7 @@ def main():
         for bits in (64, 32):
             chromium.open(f"file://{page}#{bits}", (1280, 800))
             chromium.until("by('version').textContent")
-            chromium.value("slice = async () => {}")
+            chromium.value("take = () => {}; 0")
             chromium.choose("#file", path)
             chromium.value("by('file').files[0].arrayBuffer().then((all) => slicer.call('read', { all }, [all]))")
             times[bits] = []

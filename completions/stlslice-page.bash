@@ -21,7 +21,7 @@ _stlslice_page() {
                 compopt -o default
                 return
             fi
-            local options=(--pitch --layer --rule --unit --canvas --title --workers --program --help)
+            local options=(--pitch --layer --rule --unit --canvas --title --workers --json --program --help)
             # each is given at most once
             local option given=" ${COMP_WORDS[*]:1:COMP_CWORD-1} "
             for option in "${options[@]}"; do

@@ -39,6 +39,7 @@ _stlslice_sl1() {
                 --mirror-y
                 --depth
                 --workers
+                --json
                 --program
                 --help
             )

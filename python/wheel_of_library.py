@@ -1,4 +1,4 @@
-"""Makes the wheel: the module, and the library of build/library. No other package is needed for it.
+"""Makes the wheel of a library: it has the Python module too. No other package is needed for it.
 
     wheel_of_library.py VERSION LIBRARY FOLDER
 
@@ -14,14 +14,23 @@ import sys
 import zipfile
 
 HERE = os.path.dirname(os.path.abspath(__file__))
-# the library asks for no symbol of a later C library than this
-TAG = "py3-none-manylinux_2_17_x86_64"
+# The machines of ELF files, by their number. The library asks for no symbol of a later C library than 2.17.
+ELF_MACHINES = {62: "manylinux_2_17_x86_64", 183: "manylinux_2_17_aarch64"}
+
+
+def machine_of(library):
+    """The machine that a library is for, as wheels name it: a DLL is for Windows on x86-64."""
+    with open(library, "rb") as file:
+        head = file.read(20)
+    return "win_amd64" if head[:2] == b"MZ" else ELF_MACHINES[head[18]]
 
 
 def made(version, library, folder):
     """The name of the wheel that was put into a folder. The same files give the same bytes."""
-    info = f"stlslice-{version}.dist-info"
-    files = {"stlslice/libstlslice.so.1": library, f"{info}/LICENSE": os.path.join(HERE, "..", "LICENSE")}
+    info, tag = f"stlslice-{version}.dist-info", f"py3-none-{machine_of(library)}"
+    # the name by which the module finds it
+    named = "stlslice.dll" if tag.endswith("win_amd64") else "libstlslice.so.1"
+    files = {f"stlslice/{named}": library, f"{info}/LICENSE": os.path.join(HERE, "..", "LICENSE")}
     files.update((f"stlslice/{name}", os.path.join(HERE, "stlslice", name)) for name in ("__init__.py", "py.typed"))
     content = {}
     for name, path in files.items():
@@ -31,7 +40,7 @@ def made(version, library, folder):
         f"Metadata-Version: 2.1\nName: stlslice\nVersion: {version}\n"
         "Summary: Exact slices of a closed mesh, layer by layer, as numpy arrays\n"
         "License: MIT\nRequires-Python: >=3.8\nRequires-Dist: numpy >=1.17\n").encode()
-    content[f"{info}/WHEEL"] = f"Wheel-Version: 1.0\nGenerator: stlslice\nRoot-Is-Purelib: false\nTag: {TAG}\n".encode()
+    content[f"{info}/WHEEL"] = f"Wheel-Version: 1.0\nGenerator: stlslice\nRoot-Is-Purelib: false\nTag: {tag}\n".encode()
     record = io.StringIO()
     rows = csv.writer(record, lineterminator="\n")
     for name, text in content.items():
@@ -39,12 +48,12 @@ def made(version, library, folder):
         rows.writerow([name, f"sha256={hashed}", len(text)])
     rows.writerow([f"{info}/RECORD", "", ""])
     content[f"{info}/RECORD"] = record.getvalue().encode()
-    wheel = f"stlslice-{version}-{TAG}.whl"
+    wheel = f"stlslice-{version}-{tag}.whl"
     with zipfile.ZipFile(os.path.join(folder, wheel), "w", zipfile.ZIP_DEFLATED) as zipped:
         for name, text in content.items():
             entry = zipfile.ZipInfo(name)
             entry.compress_type = zipfile.ZIP_DEFLATED
-            entry.external_attr = (0o100755 if name.endswith(".so.1") else 0o100644) << 16
+            entry.external_attr = (0o100755 if name.endswith(named) else 0o100644) << 16
             zipped.writestr(entry, text)
     return wheel
 

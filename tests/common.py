@@ -1,42 +1,180 @@
-"""What the tests share: the program's path, a folder where it is called stlslice, and how a test ends."""
+"""What the tests share: the program, a room for each test, comparing, and what can't be tried here.
 
+A test file is tests/test_*.py: its classes are of `Case`, and each method test_* is a test, named after what holds.
+"""
+
+import atexit
+import functools
 import os
 import re
 import shutil
 import subprocess
 import sys
 import tempfile
-
-sys.dont_write_bytecode = True
+import time
+import unittest
+from collections import namedtuple
 
 ROOT = os.path.dirname(os.path.dirname(os.path.abspath(__file__)))
-PROGRAM = os.path.abspath(sys.argv[1]) if len(sys.argv) > 1 else sys.exit("use: a test takes the program's path")
+PROGRAM = os.path.abspath(os.environ.get("STLSLICE", os.path.join(ROOT, "build", "stlslice")))
+
+# modules that tests import
+sys.path += [os.path.join(ROOT, it) for it in ("bench", "library/web", "python")]
+
+# The Debian packages of tools, where they have another name.
+PACKAGES = {
+    "aarch64-linux-gnu-gcc": "gcc-aarch64-linux-gnu", "assimp": "assimp-utils", "c++": "g++", "cc": "gcc",
+    "convert": "imagemagick", "emacs": "emacs-nox", "gnuplot": "gnuplot-nox", "identify": "imagemagick", "man": "man-db",
+    "montage": "imagemagick", "objcopy": "binutils", "pamsplit": "netpbm", "pkg-config": "pkgconf", "pngtopnm": "netpbm",
+    "pnminvert": "netpbm", "pnmtopng": "netpbm", "qemu-aarch64": "qemu-user", "readelf": "binutils", "ssh": "openssh-client",
+    "ssh-keygen": "openssh-client", "/usr/sbin/sshd": "openssh-server", "x86_64-w64-mingw32-gcc": "gcc-mingw-w64-x86-64"}
+
+# Other names of a tool.
+ALSO = {"chromium": ("chromium-browser", "google-chrome")}
+
+
+def same(found, wanted, what):
+    """Fails the test if the two differ. A long value is shown from shortly before the first difference."""
+    if found != wanted:
+        one, other = repr(found), repr(wanted)
+        at = max(0, len(os.path.commonprefix([one, other])) - 80)
+        one, other = (("..." if at else "") + it[at:at + 400] + ("..." if len(it) > at + 400 else "") for it in (one, other))
+        raise AssertionError(f"{what}:\n   found {one}\n  wanted {other}")
+
+
+def lacking(*tools):
+    """Which of these tools aren't here, in one line, or an empty text."""
+    missing = [tool for tool in tools if not any(map(shutil.which, (tool, *ALSO.get(tool, ()))))]
+    named = ["rt, of the Rattle toolchain" if it == "rt" else f"{it} (Debian: {PACKAGES.get(it, it)})" for it in missing]
+    return f"missing: {', '.join(named)}" if missing else ""
+
+
+def needs(*tools):
+    """Skips a test, or all of a class, if one of these tools isn't here."""
+    return unittest.skipIf(lacking(*tools), lacking(*tools))
 
 
 def skip(why):
-    """Ends the test as one that can't run here."""
-    print(why)
-    sys.exit(77)
+    """Ends the test: it can't be tried here."""
+    raise unittest.SkipTest(why)
 
 
-LEFT_OUT = []
+Ran = namedtuple("Ran", "status out fault")
 
 
-def leave_out(why):
-    """Notes what of a test can't run here."""
-    print(why)
-    LEFT_OUT.append(why)
+class Room:
+    """A folder `path`, empty at first, with an environment whose PATH begins with the program, called stlslice, and that has
+    a home of its own, so that nothing depends on the user's settings. Both are removed in the end."""
+
+    def __init__(self):
+        self.folder = tempfile.TemporaryDirectory(prefix="stlslice-test-")
+        self.path, self.home, bin = (os.path.join(self.folder.name, it) for it in ("room", "home", "bin"))
+        for folder in (self.path, self.home, bin):
+            os.mkdir(folder)
+        os.symlink(PROGRAM, os.path.join(bin, "stlslice"))
+        self.environment = {**os.environ, "PATH": f"{bin}:{os.environ['PATH']}", "HOME": self.home, "TMPDIR": self.path,
+                            "LC_ALL": "C.UTF-8", "PYTHONDONTWRITEBYTECODE": "1"}
+        # a make above the tests hands its own words down
+        for name in ("MAKEFLAGS", "MFLAGS", "MAKELEVEL", "DESTDIR", "PREFIX", "SOURCE_DATE_EPOCH"):
+            self.environment.pop(name, None)
+        self.remove = self.folder.cleanup
+
+    def file(self, *names):
+        """The path of a file in the room."""
+        return os.path.join(self.path, *names)
+
+    def files(self):
+        return sorted(os.listdir(self.path))
+
+    def put(self, name, body, mode=0o644):
+        """Writes a file of the room, of a text or of bytes, and returns its path."""
+        path = self.file(name)
+        with open(path, "wb") as file:
+            file.write(body.encode() if isinstance(body, str) else body)
+        os.chmod(path, mode)
+        return path
+
+    def get(self, *names):
+        return bytes_of(self.path, *names)
+
+    def with_env(self, **more):
+        return {**self.environment, **more}
+
+    def run(self, *words, text=True, input=None, path=None, **how):
+        """Status, standard output and standard error of a run in the repository's folder. Standard input is `input`, a text
+        or bytes, or the file at `path`, or `stdin`; else it is empty. Without `text`, standard output is bytes."""
+        how = {"cwd": ROOT, "env": self.environment, "timeout": 890, **how}
+        if input is not None:
+            how["input"] = input.encode() if isinstance(input, str) else input
+        elif path is not None:
+            with open(path, "rb") as file:
+                return self.run(*words, text=text, stdin=file, **how)
+        else:
+            how.setdefault("stdin", subprocess.DEVNULL)
+        ran = subprocess.run(words, stdout=subprocess.PIPE, stderr=subprocess.PIPE, **how)
+        return Ran(ran.returncode, ran.stdout.decode() if text else ran.stdout, ran.stderr.decode(errors="backslashreplace"))
+
+    def out(self, *words, **how):
+        """The standard output of a run that ends with status 0 and says nothing else."""
+        ran = self.run(*words, **how)
+        same((ran.status, ran.fault), (0, ""), f"status and faults of {' '.join(map(str, words))}")
+        return ran.out
+
+    def bash(self, script, *words, **how):
+        """A run of a script, whose words are "$@"."""
+        return self.run("bash", "-c", script, "bash", *words, **how)
+
+    def refused(self, status, line, *words, script=None, **how):
+        """A run, by a script if there is one, ends with this status, prints nothing, says this line alone, or nothing, and
+        leaves the room's files as they were. In the line %s stands for the command's name."""
+        files, line = self.files(), line.replace("%s", name_of(os.fsdecode(words[0]))) + "\n" * bool(line)
+        ran = self.bash(script, *words, **how) if script else self.run(*words, **how)
+        same(ran, (status, "", line), f"{script or 'a run'} of {words}")
+        same(self.files(), files, f"files after {words}")
+
+    def make(self, *words):
+        """make with the program at hand in the place of build/stlslice; it is taken as built, and so is a library."""
+        return self.out("make", "-o", PROGRAM, "-o", LIBRARY, f"PROGRAM={PROGRAM}", *words)
 
 
-def ended():
-    """Ends the test as skipped if something was left out."""
-    if LEFT_OUT:
-        skip("; ".join(LEFT_OUT))
+class Case(unittest.TestCase):
+    """Tests that each have a room of their own."""
+
+    def setUp(self):
+        self.room = Room()
+        self.addCleanup(self.room.remove)
+
+    def leave_out(self, why):
+        """Goes on. The test counts as skipped, since this could not be tried."""
+        with self.subTest(why):
+            self.skipTest(why)
+
+
+class Together(Case):
+    """Tests that share one room, in which `make_ready` has made what they look at."""
+
+    @classmethod
+    def setUpClass(cls):
+        cls.room = Room()
+        cls.addClassCleanup(cls.room.remove)
+        cls.make_ready(cls.room)
+
+    def setUp(self):
+        pass
+
+
+def bytes_of(*path):
+    with open(os.path.join(ROOT, *path), "rb") as file:
+        return file.read()
 
 
 def text_of(name):
     with open(os.path.join(ROOT, name), encoding="utf-8") as file:
         return file.read()
+
+
+def example(name):
+    return os.path.join(ROOT, "examples", name)
 
 
 def version():
@@ -47,46 +185,31 @@ def version():
 LIBRARY = os.path.join("build", "library", f"libstlslice.so.{version()}")
 
 
+def is_old(target):
+    """Whether make would make this file anew."""
+    words = ["env", "-u", "MAKEFLAGS", "-u", "MFLAGS", "-u", "MAKELEVEL", "make", "-q", target]
+    return subprocess.run(words, cwd=ROOT, stdout=subprocess.DEVNULL, stderr=subprocess.DEVNULL).returncode != 0
+
+
+@functools.lru_cache()
 def why_no_library():
-    """Why there is no library to be tested, or None if `make library` left one of the sources as they are."""
+    """Why there is no library to be tested, or an empty text if `make library` left one of the sources as they are."""
     if not os.path.exists(os.path.join(ROOT, LIBRARY)):
         return "the library isn't built (make library)"
-    words = {name: value for name, value in os.environ.items() if name not in ("MAKEFLAGS", "MFLAGS", "MAKELEVEL")}
-    is_old = subprocess.run(["make", "-q", LIBRARY], cwd=ROOT, env=words, stdout=subprocess.DEVNULL, stderr=subprocess.DEVNULL)
-    return "the library is older than its sources (make library)" if is_old.returncode else None
+    return "the library is older than its sources (make library)" if is_old(LIBRARY) else ""
 
 
 def library():
-    """The shared library that `make library` left, beside the static one and stlslice.pc. The test can't run here if there is
-    none of the sources as they are."""
-    why = why_no_library()
-    return skip(why) if why else os.path.join(ROOT, LIBRARY)
+    """The shared library that `make library` left, beside the static one and stlslice.pc. A test without it is skipped."""
+    return skip(why_no_library()) if why_no_library() else os.path.join(ROOT, LIBRARY)
 
 
-def python_with(room, *modules):
+def python_with(*modules):
     """A Python that has these modules, else the one that runs this."""
     found = [it for it in (sys.executable, "/usr/bin/python3") if os.path.exists(it)]
-    return next((it for it in found if not room.run(it, "-c", f"import {', '.join(modules)}").returncode), sys.executable)
-
-
-def wants(*tools):
-    """Ends the test as one that can't run here if one of these tools is missing. Each is given with its Debian package."""
-    for tool, package in tools:
-        if not shutil.which(tool):
-            skip(f"{tool} is missing (Debian: {package})")
-
-
-def same(what, found, wanted):
-    """Ends the test as failed if the two differ."""
-    if found != wanted:
-        sys.exit(f"{what}: found\n{found!r}\nand wanted\n{wanted!r}")
-    print(f"{what}: as wanted")
-
-
-def holds(what, is_so):
-    if not is_so:
-        sys.exit(f"{what}: not so")
-    print(f"{what}: so")
+    asked = ["-c", f"import {', '.join(modules)}"]
+    has_all = (it for it in found if subprocess.run([it, *asked], stderr=subprocess.DEVNULL).returncode == 0)
+    return next(has_all, sys.executable)
 
 
 def links_hold(folder):
@@ -94,43 +217,81 @@ def links_hold(folder):
     count = 0
     for at, _, names in os.walk(folder):
         for name in (it for it in names if it.endswith(".md")):
-            with open(os.path.join(at, name), encoding="utf-8") as file:
-                text = re.sub(r"(?ms)^```.*?^```$", "", file.read())
-            for place in re.findall(r"\]\(([^)#:\s]+)(?:#[^)]*)?\)", text):
+            for place in re.findall(r"\]\(([^)#:\s]+)(?:#[^)]*)?\)", without_blocks(text_of(os.path.join(at, name)))):
                 count += 1
-                if not os.path.exists(os.path.join(at, place)):
-                    sys.exit(f"{os.path.join(at, name)}: {place} isn't there")
-    holds(f"{count} links of documents lead to what is there", count > 20)
+                assert os.path.exists(os.path.join(at, place)), f"{os.path.join(at, name)}: {place} isn't there"
+    assert count > 20, f"only {count} links of documents were found"
 
 
-class Room:
-    """A folder that is removed in the end, with bin/stlslice, and an environment whose PATH begins with its bin/."""
+def without_blocks(text):
+    return re.sub(r"(?ms)^```.*?^```$", "", text)
 
-    def __enter__(self):
-        self.folder = tempfile.TemporaryDirectory(prefix="stlslice-test-")
-        self.path = self.folder.name
-        os.mkdir(self.file("bin"))
-        os.symlink(PROGRAM, self.file("bin", "stlslice"))
-        self.environment = {**os.environ, "PATH": f"{self.file('bin')}:{os.environ['PATH']}", "LC_ALL": "C.UTF-8"}
-        # a make above this test hands its own words down
-        for name in ("MAKEFLAGS", "MFLAGS", "MAKELEVEL", "DESTDIR", "PREFIX"):
-            self.environment.pop(name, None)
-        return self
 
-    def __exit__(self, *_):
-        self.folder.cleanup()
+@functools.lru_cache()
+def installed(name=""):
+    """The path of a command as `make install` puts it, in a folder of this process; with no name, the folder of all."""
+    if name:
+        return os.path.join(installed(), name)
+    room = Room()
+    atexit.register(room.remove)
+    room.make("-s", "install", f"DESTDIR={room.path}", "PREFIX=/usr", "LIBRARY_BUILT=")
+    return room.file("usr", "bin")
 
-    def file(self, *names):
-        return os.path.join(self.path, *names)
 
-    def run(self, *words, **how):
-        """A command run in the repository's folder; its outputs are texts unless `text=False`."""
-        how = {"cwd": ROOT, "env": self.environment, "stdin": subprocess.DEVNULL, "text": True, **how}
-        return subprocess.run(words, stdout=subprocess.PIPE, stderr=subprocess.PIPE, **how)
+def name_of(command):
+    return os.path.basename(command)
 
-    def make(self, *words):
-        """make with the program at hand in the place of build/stlslice; it is taken as built, and so is a library."""
-        ran = self.run("make", "-o", PROGRAM, "-o", LIBRARY, f"PROGRAM={PROGRAM}", *words)
-        if ran.returncode:
-            sys.exit(f"make {' '.join(words)}: status {ran.returncode}\n{ran.stdout}{ran.stderr}")
-        return ran
+
+def alone(name, room):
+    """A copy of a command as installed, with its module, and no program beside it."""
+    os.makedirs(room.file("alone", "bin"), exist_ok=True)
+    if not os.path.lexists(room.file("alone", "share")):
+        os.symlink(os.path.join(os.path.dirname(installed()), "share"), room.file("alone", "share"))
+    return shutil.copy(installed(name), room.file("alone", "bin"))
+
+
+def has_ended(pid):
+    """Whether a process is gone, or waits only for its parent to ask for its status."""
+    try:
+        return text_of(f"/proc/{pid}/stat").rpartition(")")[2].split()[0] == "Z"
+    except (FileNotFoundError, ProcessLookupError):
+        return True
+
+
+def waited(is_so, seconds=60):
+    for _ in range(20 * seconds):
+        if is_so():
+            return
+        time.sleep(0.05)
+    raise AssertionError(f"it was not so within {seconds} seconds")
+
+
+# A stand-in for Slurm's sbatch, which runs each task of the array, the last first, and ends with the greatest status.
+SBATCH = """#!/bin/bash
+set -eu
+[[ $1 == --wait && $2 =~ ^--array=([0-9]+)(-([0-9]+))?$ ]]
+first=${BASH_REMATCH[1]} last=${BASH_REMATCH[3]:-${BASH_REMATCH[1]}} greatest=0
+name=$(sed -n 's/^#SBATCH --job-name=//p' "$3")
+echo Submitted batch job 1
+for ((task = last; task >= first; task--)); do
+  status=0
+  SLURM_ARRAY_TASK_ID=$task SLURM_JOB_ID=$((task + 1)) bash "${@:3}" > "$name-1-$task.log" 2>&1 || status=$?
+  ((status <= greatest)) || greatest=$status
+done
+exit "$greatest"
+"""
+
+
+def add_batch_system(room):
+    """Adds `sbatch` to a room: Slurm's own if a controller gives a machine within seconds that sees the room and the
+    program; else a stand-in. Which one it is, is printed."""
+    if not lacking("sbatch", "srun"):
+        words = ["srun", "--quiet", "--immediate=5", "--time=1", "bash", "-c", 'test -w "$0" && test -x "$1"']
+        try:
+            if room.run(*words, room.path, PROGRAM, timeout=30).status == 0:
+                print("sbatch: Slurm's own")
+                return
+        except subprocess.TimeoutExpired:
+            pass
+    room.put("../bin/sbatch", SBATCH, 0o755)
+    print("sbatch: a stand-in, since no Slurm answers here")

@@ -1,21 +1,15 @@
 """Reads the fenced blocks of a page of Markdown, for the tests that run them."""
 
 import re
+from collections import namedtuple
 
 HEAD = re.compile(r"^(#{1,6}) (.*)$")
 FENCE = re.compile(r"^```(\w*) ?(.*)$")
 
 
-class Block:
-    """A fenced block: the heading that it stands under, its language, the words after that, its text, and the plain text
-    between it and the block before, or the heading."""
-
-    def __init__(self, head, language, words, body, before):
-        self.head = head
-        self.language = language
-        self.words = words
-        self.body = body
-        self.before = before
+# A fenced block: the heading that it stands under, its language, the words after that, its text, and the plain text between
+# it and the block before, or the heading.
+Block = namedtuple("Block", "head language words body before")
 
 
 def blocks(path):

@@ -1,12 +1,10 @@
-#!/usr/bin/env python3
-"""The Debian package has program, manual, completions, examples and licence. Made twice it is the same bytes. lintian, if
-it is there, reports no fault in it beyond what the package's overrides explain."""
+"""The Debian packages of the program and of the library have what belongs there, in Debian's places. Made twice they are the
+same bytes. lintian reports no fault in them beyond what the packages' overrides explain."""
 
-import glob
 import os
-import shutil
+import re
 
-from common import PROGRAM, ROOT, Room, holds, links_hold, same, skip, version
+from common import LIBRARY, PROGRAM, Together, bytes_of, example, library, links_hold, needs, same, version
 
 PLACES = """./usr/bin/stlslice ./usr/share/man/man1/stlslice.1.gz ./usr/share/doc/stlslice/copyright
 ./usr/share/doc/stlslice/changelog.gz ./usr/share/doc/stlslice/examples/bracket.stl
@@ -16,43 +14,107 @@ PLACES = """./usr/bin/stlslice ./usr/share/man/man1/stlslice.1.gz ./usr/share/do
 ./usr/share/zsh/vendor-completions/_stlslice-sl1 ./usr/share/bash-completion/completions/stlslice-pngs
 ./usr/bin/stlslice-page ./usr/share/man/man1/stlslice-page.1.gz ./usr/share/zsh/vendor-completions/_stlslice-page""".split()
 
+LIB = "usr/lib/x86_64-linux-gnu"
+SHARED = f"{LIB}/libstlslice.so.{version()}"
+# For each package of the library its places, with the file whose bytes they have.
+FILES = {
+    "libstlslice1": {SHARED: LIBRARY, f"{LIB}/libstlslice.so.1": "link", "usr/share/doc/libstlslice1/copyright": "LICENSE"},
+    "libstlslice-dev": {f"{LIB}/libstlslice.so": "link", f"{LIB}/libstlslice.a": None, f"{LIB}/pkgconfig/stlslice.pc": None,
+                        "usr/include/stlslice.h": "include/stlslice.h", "usr/share/doc/libstlslice-dev/embedding.md": None,
+                        "usr/share/doc/libstlslice-dev/preview.png": "docs/preview.png",
+                        "usr/share/doc/libstlslice-dev/page.png": "docs/page.png",
+                        "usr/share/doc/libstlslice-dev/copyright": "LICENSE"},
+}
+TOLD = '#include <stdio.h>\n#include <stlslice.h>\nint main(void) { return printf("%u\\n", stlslice_version()) < 0; }\n'
 
-def made(room, name):
-    ran = room.run("tools/deb", PROGRAM, version(), room.file(name))
-    same("status of tools/deb", (ran.returncode, ran.stderr), (0, ""))
-    package, = glob.glob(room.file(name, "*.deb"))
-    with open(package, "rb") as file:
-        return package, file.read()
+
+def made(room, name, script, built, wanted):
+    """The packages of a script, in an own folder of the room, each of these names."""
+    room.out(script, built, version(), room.file(name))
+    same(sorted(os.listdir(room.file(name))), sorted(wanted), "packages")
+    return [room.file(name, it) for it in wanted]
 
 
-def main():
-    for tool in ("dpkg-deb", "make"):
-        if not shutil.which(tool):
-            skip(f"{tool} is missing")
-    with Room() as room:
-        package, first = made(room, "one")
-        holds("both packages are the same bytes", first == made(room, "another")[1])
-        listed = room.run("dpkg-deb", "-c", package).stdout.splitlines()
-        files = {line.split()[-1]: line.split() for line in listed}
+def listed(room, package):
+    lines = [line.split() for line in room.run("dpkg-deb", "-c", package).out.splitlines()]
+    return {line[5]: (line[0], line[1]) for line in lines}
+
+
+@needs("dpkg-deb", "make")
+class OfProgram(Together):
+    @classmethod
+    def make_ready(cls, room):
+        cls.words = ["tools/deb", PROGRAM, [f"stlslice_{version()}-1_amd64.deb"]]
+        cls.package, = made(room, "one", *cls.words)
+        room.run("dpkg-deb", "-x", cls.package, room.file("opened"))
+
+    def test_it_is_made_alike_again(self):
+        again, = made(self.room, "again", *self.words)
+        assert bytes_of(self.package) == bytes_of(again), "other bytes"
+
+    def test_its_places_are_roots(self):
+        files = listed(self.room, self.package)
         for place in PLACES:
-            holds(f"{place} is in it, as root's", place in files and files[place][1] == "root/root")
+            assert place in files and files[place][1] == "root/root", f"{place}: {files.get(place)}"
         beside = [it for it in files if it.startswith(("./usr/lib/", "./usr/include/"))]
-        same("what it has of the library, which is a package of its own", beside, [])
-        room.run("dpkg-deb", "-x", package, room.file("opened"))
-        with open(os.path.join(ROOT, "examples", "bracket.stl"), "rb") as part:
-            told = room.run(room.file("opened", "usr/bin/stlslice"), "--box", stdin=part)
-        holds("the program runs", told.returncode == 0 and told.stdout.startswith("facets "))
-        links_hold(room.file("opened", "usr/share/doc/stlslice"))
-        part = os.path.join(ROOT, "examples", "bracket.stl")
-        told = room.run(room.file("opened", "usr/bin/stlslice-sl1"), "--printer", "SL1S", part, room.file("out.sl1"))
-        page = room.run(room.file("opened", "usr/bin/stlslice-page"), part, room.file("page.html"))
-        holds("the command for a page runs", (page.returncode, page.stderr) == (0, "") and "540 layers" in page.stdout)
-        holds("the command for archives runs", (told.returncode, told.stderr) == (0, "") and "540 layers" in told.stdout)
-        if shutil.which("lintian"):
-            same("what lintian has to say", room.run("lintian", "--allow-root", package).stdout, "")
-        else:
-            skip("lintian is missing (Debian: lintian): the package was not looked at by it")
+        same(beside, [], "what it has of the library, which is a package of its own")
+
+    def test_its_commands_run(self):
+        part = example("bracket.stl")
+        told = self.room.run(self.room.file("opened/usr/bin/stlslice"), "--box", path=part)
+        assert told.status == 0 and told.out.startswith("facets "), told
+        for words in (["stlslice-sl1", "--printer", "SL1S", part, self.room.file("out.sl1")],
+                      ["stlslice-page", part, self.room.file("page.html")]):
+            told = self.room.out(self.room.file("opened/usr/bin", words[0]), *words[1:])
+            assert "540 layers" in told, f"{words[0]}: {told}"
+
+    def test_links_of_its_documents_hold(self):
+        links_hold(self.room.file("opened/usr/share/doc/stlslice"))
+
+    @needs("lintian")
+    def test_lintian_finds_no_fault(self):
+        same(self.room.run("lintian", "--allow-root", self.package).out, "", "what lintian has to say")
 
 
-if __name__ == "__main__":
-    main()
+@needs("dpkg-deb", "dpkg", "make")
+class OfLibrary(Together):
+    @classmethod
+    def make_ready(cls, room):
+        cls.words = ["tools/deb_library", library(), [f"{it}_{version()}-1_amd64.deb" for it in FILES]]
+        cls.packages = made(room, "one", *cls.words)
+        for package in cls.packages:
+            room.run("dpkg-deb", "-x", package, room.file("opened"))
+
+    def test_they_are_made_alike_again(self):
+        again = made(self.room, "again", *self.words)
+        assert list(map(bytes_of, self.packages)) == list(map(bytes_of, again)), "other bytes"
+
+    def test_each_file_is_in_one_of_them_as_built(self):
+        seen = set()
+        for package, (name, wanted) in zip(self.packages, FILES.items()):
+            files = {place[2:]: told for place, told in listed(self.room, package).items() if not told[0].startswith("d")}
+            same(seen & set(files), set(), f"what {name} has of the other's")
+            seen |= set(files)
+            for place, source in wanted.items():
+                mode = "lrwxrwxrwx" if source == "link" else "-rw-r--r--"
+                same(files.get(place), (mode, "root/root"), f"mode and owner of {place} in {name}")
+                if source not in (None, "link"):
+                    assert self.room.get("opened", place) == bytes_of(source), f"{place} isn't as built"
+
+    def test_their_texts_name_places_as_installed(self):
+        told = self.room.get("opened", LIB, "pkgconfig/stlslice.pc").decode().splitlines()
+        same(told[:3], ["prefix=/usr", f"libdir=/{LIB}", "includedir=/usr/include"], "places in stlslice.pc")
+        linked = re.findall(r"\]\(([^)#]+)", self.room.get("opened/usr/share/doc/libstlslice-dev/embedding.md").decode())
+        same(sorted(linked), ["page.png", "preview.png"], "what its document links to")
+        depends = self.room.run("dpkg-deb", "-f", self.packages[1], "Depends").out
+        assert f"libstlslice1 (= {version()}-1)" in depends, f"one wants the other, of just its version: {depends}"
+
+    @needs("cc")
+    def test_a_program_is_built_with_them(self):
+        source, program, opened = self.room.put("told.c", TOLD), self.room.file("told"), self.room.file("opened")
+        self.room.out("cc", source, f"-I{opened}/usr/include", f"-L{opened}/{LIB}", "-lstlslice", "-o", program)
+        self.room.out(program, env=self.room.with_env(LD_LIBRARY_PATH=self.room.file("opened", LIB)))
+
+    @needs("lintian")
+    def test_lintian_finds_no_fault(self):
+        same(self.room.run("lintian", "--allow-root", *self.packages).out, "", "what lintian has to say")

@@ -1,16 +1,16 @@
-#!/usr/bin/env -S python3 -B
 """A limit of the size of files (`ulimit -f`) ends the program by its signal, as it ends any other. If the signal is
 ignored, the write fails, and the line counts the bytes that went out."""
 
-import os
 import resource
 import signal
 import subprocess
 
-from parts import box, main, run, same, text
+from common import PROGRAM, Case, same
+from parts import box, text
 
 LIMIT = 100_000
-WORDS = ["--pitch", "10", "--layer", "1000"]
+WORDS = [PROGRAM, "--pitch", "10", "--layer", "1000"]
+CUBE = text(box((0, 0, 0), (10, 10, 10))).encode()
 
 
 def limited(handler):
@@ -21,20 +21,13 @@ def limited(handler):
     return prepare
 
 
-def limits_of_file_size_end_a_run(program, folder):
-    cube = text(box((0, 0, 0), (10, 10, 10))).encode()
-    whole = run([program, *WORDS], input=cube)
-    same((whole[0], whole[2]), (0, b""), "the run without a limit")
-    line = b"stlslice: write failed after %d bytes\n" % LIMIT
-    for handler, wanted in ((signal.SIG_DFL, (-signal.SIGXFSZ, b"")), (signal.SIG_IGN, (7, line))):
-        path = os.path.join(folder, "images")
-        with open(path, "wb") as sink:
-            done = subprocess.run([program, *WORDS], input=cube, stdout=sink, stderr=subprocess.PIPE, preexec_fn=limited(handler),
-                                  timeout=60)
-        same((done.returncode, done.stderr), wanted, f"status and fault, {handler!r}")
-        with open(path, "rb") as file:
-            same(file.read(), whole[1][:LIMIT], f"what was written, {handler!r}")
-
-
-if __name__ == "__main__":
-    main([limits_of_file_size_end_a_run])
+class FileSize(Case):
+    def test_a_limit_of_file_size_ends_a_run(self):
+        whole = self.room.out(*WORDS, input=CUBE, text=False)
+        line = b"stlslice: write failed after %d bytes\n" % LIMIT
+        for handler, wanted in ((signal.SIG_DFL, (-signal.SIGXFSZ, b"")), (signal.SIG_IGN, (7, line))):
+            with open(self.room.file("images"), "wb") as sink:
+                done = subprocess.run(WORDS, input=CUBE, stdout=sink, stderr=subprocess.PIPE, preexec_fn=limited(handler),
+                                      timeout=60)
+            same((done.returncode, done.stderr), wanted, f"status and fault, {handler!r}")
+            same(self.room.get("images"), whole[:LIMIT], f"what was written, {handler!r}")

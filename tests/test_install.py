@@ -1,103 +1,179 @@
-#!/usr/bin/env python3
-"""make install puts each file into its place below DESTDIR and PREFIX, and make uninstall removes them and no other."""
+"""make install puts each file into its place below DESTDIR and PREFIX, and make uninstall removes them and no other. With a
+built library: header, libraries and stlslice.pc, of which alone the preview of docs/embedding.md is made, shared and static.
+It shows what the program slices, and a refused part's line."""
 
 import gzip
 import os
 import re
-import shutil
+import shlex
 import stat
 
-from common import PROGRAM, ROOT, Room, ended, holds, leave_out, links_hold, same, text_of
+from common import PROGRAM, ROOT, Together, bytes_of, example, library, links_hold, needs, same, text_of, version
+from parts import layers_of
 
-PLACES = {
-    "bin/stlslice": PROGRAM,
-    "share/bash-completion/completions/stlslice": "completions/stlslice.bash",
-    "share/zsh/site-functions/_stlslice": "completions/_stlslice",
-    "share/fish/vendor_completions.d/stlslice.fish": "completions/stlslice.fish",
-    "bin/stlslice-page": "commands/stlslice-page",
-    "share/bash-completion/completions/stlslice-page": "completions/stlslice-page.bash",
-    "share/zsh/site-functions/_stlslice-page": "completions/_stlslice-page",
-    "share/fish/vendor_completions.d/stlslice-page.fish": "completions/stlslice-page.fish",
-    "bin/stlslice-sl1": "commands/stlslice-sl1",
-    "bin/stlslice-pngs": "commands/stlslice-pngs",
-    "bin/stlslice-slabs": "commands/stlslice-slabs",
-    "share/stlslice/stlslice_commands/printers.csv": "commands/stlslice_commands/printers.csv",
-    "share/bash-completion/completions/stlslice-pngs": "completions/stlslice-sl1.bash",
-    "share/bash-completion/completions/stlslice-slabs": "completions/stlslice-slabs.bash",
-    "share/zsh/site-functions/_stlslice-sl1": "completions/_stlslice-sl1",
-    "share/zsh/site-functions/_stlslice-slabs": "completions/_stlslice-slabs",
-    "share/fish/vendor_completions.d/stlslice-pngs.fish": "completions/stlslice-sl1.fish",
-    "share/fish/vendor_completions.d/stlslice-slabs.fish": "completions/stlslice-slabs.fish",
-    "share/doc/stlslice/README.md": "README.md",
-    "share/doc/stlslice/LICENSE": "LICENSE",
-    "share/doc/stlslice/CHANGELOG.md": "CHANGELOG.md",
-    "share/doc/stlslice/SECURITY.md": "SECURITY.md",
-}
-
-
-def bytes_of(path):
-    with open(os.path.join(ROOT, path), "rb") as file:
-        return file.read()
+COMMANDS = ("stlslice", "stlslice-sl1", "stlslice-pngs", "stlslice-slabs", "stlslice-page")
+# For each place the file that is copied there. stlslice-pngs has the completions of stlslice-sl1.
+PLACES = {"share/stlslice/stlslice_commands/printers.csv": "commands/stlslice_commands/printers.csv",
+          **{f"share/doc/stlslice/{it}": it for it in ("README.md", "LICENSE", "CHANGELOG.md", "SECURITY.md")}}
+for name in COMMANDS:
+    words = name.replace("pngs", "sl1")
+    PLACES.update({f"bin/{name}": f"commands/{name}" if name != "stlslice" else PROGRAM,
+                   f"share/bash-completion/completions/{name}": f"completions/{words}.bash",
+                   f"share/zsh/site-functions/_{words}": f"completions/_{words}",
+                   f"share/fish/vendor_completions.d/{name}.fish": f"completions/{words}.fish"})
 
 
 def files_below(folder):
     return sorted(os.path.relpath(os.path.join(at, name), folder) for at, _, names in os.walk(folder) for name in names)
 
 
-def main():
-    if not shutil.which("make"):
-        raise SystemExit("make is missing")
-    with Room() as room:
-        where, below = f"DESTDIR={room.file('root')}", room.file("root", "opt", "here")
-        os.makedirs(room.file("root", "opt", "here", "bin"))
-        open(room.file("root", "opt", "here", "bin", "other"), "w").close()
-        room.make("install", where, "PREFIX=/opt/here")
+def mode_of(path):
+    return stat.S_IMODE(os.stat(path).st_mode)
+
+
+@needs("make")
+class Install(Together):
+    @classmethod
+    def make_ready(cls, room):
+        cls.words = [f"DESTDIR={room.file('root')}", "PREFIX=/opt/here"]
+        cls.below = room.file("root/opt/here")
+        os.makedirs(room.file("root/opt/here/bin"))
+        room.put("root/opt/here/bin/other", "")
+        room.make("install", *cls.words)
+
+    def in_place(self, *names):
+        return os.path.join(self.below, *names)
+
+    def test_each_file_is_in_its_place(self):
         for place, source in PLACES.items():
-            same(f"bytes of {place}", bytes_of(os.path.join(below, place)), bytes_of(source))
-            mode = stat.S_IMODE(os.stat(os.path.join(below, place)).st_mode)
-            same(f"mode of {place}", mode, 0o755 if place.startswith("bin/") else 0o644)
-        manual = gzip.decompress(bytes_of(os.path.join(below, "share/man/man1/stlslice.1.gz")))
-        same("the manual", manual, bytes_of("man/stlslice.1"))
-        page = gzip.decompress(bytes_of(os.path.join(below, "share/man/man1/stlslice-page.1.gz")))
-        same("the manual of stlslice-page", page, bytes_of("man/stlslice-page.1"))
-        part = os.path.join(ROOT, "examples", "bracket.stl")
-        ran = room.run(os.path.join(below, "bin/stlslice-page"), "--layer", "1000", part, room.file("page.html"), env={"PATH": "/usr/bin:/bin"})
-        holds("stlslice-page finds the program beside itself", ran.returncode == 0 and "27 layers" in ran.stdout)
-        named = re.findall(r"\bPa (\S+)", manual.decode())
-        manuals = os.path.join(below, "share/man/man1")
-        same("manuals", sorted(os.listdir(manuals)), sorted(f"{name}.gz" for name in os.listdir(os.path.join(ROOT, "man"))))
-        for name in os.listdir(manuals):
-            same(f"the manual {name}", gzip.decompress(bytes_of(os.path.join(manuals, name))), bytes_of(f"man/{name[:-3]}"))
-        module = "share/stlslice/stlslice_commands"
-        wanted = [it for it in os.listdir(os.path.join(ROOT, "commands/stlslice_commands")) if "." in it]
-        same("files of the module", sorted(os.listdir(os.path.join(below, module))), sorted(wanted))
-        named = re.findall(r"\bPa (\S+)", text_of("man/stlslice.1"))
-        holds("the manual names places", len(named) > 4)
-        for place in named:
-            found = place if place.startswith("share/") else os.path.join("share/doc/stlslice/docs", place)
-            holds(f"{place}, which the manual names, is there", os.path.exists(os.path.join(below, found)))
+            same(bytes_of(self.below, place), bytes_of(source), f"bytes of {place}")
+            same(mode_of(self.in_place(place)), 0o755 if place.startswith("bin/") else 0o644, f"mode of {place}")
+        module = [it for it in os.listdir(os.path.join(ROOT, "commands/stlslice_commands")) if "." in it]
+        same(sorted(os.listdir(self.in_place("share/stlslice/stlslice_commands"))), sorted(module), "files of the module")
         for folder in ("docs", "examples"):
             wanted = [it for it in files_below(os.path.join(ROOT, folder)) if "." in it and "__pycache__" not in it]
-            same(f"files of {folder}", files_below(os.path.join(below, "share/doc/stlslice", folder)), wanted)
-        links_hold(os.path.join(below, "share/doc/stlslice"))
-        if not shutil.which("man"):
-            leave_out("man is missing (Debian: man-db): that it finds the manuals was not tried")
-        else:
-            for name in ("stlslice", "stlslice-sl1", "stlslice-pngs", "stlslice-slabs", "stlslice-page"):
-                shown = room.run("man", "-M", os.path.join(below, "share/man"), name)
-                holds(f"man finds {name}", shown.returncode == 0 and "EXIT STATUS" in shown.stdout.replace("\x08", ""))
-        part = os.path.join(ROOT, "examples", "bracket.stl")
-        for name, words in (("stlslice-sl1", ["--printer", "SL1S", "--layer", "1000", part, room.file("out.sl1")]),
-                            ("stlslice-pngs", ["--printer", "SL1", "--layer", "1000", part, room.file("out")]),
-                            ("stlslice-slabs", ["--words", part])):
-            ran = room.run(os.path.join(below, "bin", name), *words, env={"PATH": "/usr/bin:/bin"})
-            holds(f"{name} finds the program beside itself", ran.returncode == 0 and ran.stdout)
-        outside = [it for it in files_below(room.file("root")) if not it.startswith("opt/here/")]
-        same("files outside the prefix", outside, [])
-        room.make("uninstall", where, "PREFIX=/opt/here")
-        same("files after make uninstall", files_below(room.file("root")), ["opt/here/bin/other"])
-    ended()
+            same(files_below(self.in_place("share/doc/stlslice", folder)), wanted, f"files of {folder}")
+        outside = [it for it in files_below(self.room.file("root")) if not it.startswith("opt/here/")]
+        same(outside, [], "files outside the prefix")
+
+    def test_the_manuals_are_there_and_name_places_that_are(self):
+        manuals = os.listdir(os.path.join(ROOT, "man"))
+        same(sorted(os.listdir(self.in_place("share/man/man1"))), sorted(f"{name}.gz" for name in manuals), "manuals")
+        for name in manuals:
+            found = gzip.decompress(bytes_of(self.below, "share/man/man1", f"{name}.gz"))
+            same(found, bytes_of("man", name), f"the manual {name}")
+        named = re.findall(r"\bPa (\S+)", text_of("man/stlslice.1"))
+        assert len(named) > 4, f"the manual names {named}"
+        for place in named:
+            found = place if place.startswith("share/") else os.path.join("share/doc/stlslice/docs", place)
+            assert os.path.exists(self.in_place(found)), f"{place}, which the manual names, isn't there"
+
+    def test_links_of_documents_hold(self):
+        links_hold(self.in_place("share/doc/stlslice"))
+
+    @needs("man")
+    def test_man_finds_the_manuals(self):
+        for name in COMMANDS:
+            shown = self.room.run("man", "-M", self.in_place("share/man"), name)
+            assert shown.status == 0 and "EXIT STATUS" in shown.out.replace("\x08", ""), f"{name}: {shown}"
+
+    def test_the_commands_find_the_program_beside_themselves(self):
+        part = example("bracket.stl")
+        for words, told in ((["stlslice-page", "--layer", "1000", part, self.room.file("page.html")], "27 layers"),
+                            (["stlslice-sl1", "--printer", "SL1S", "--layer", "1000", part, self.room.file("out.sl1")], ""),
+                            (["stlslice-pngs", "--printer", "SL1", "--layer", "1000", part, self.room.file("out")], ""),
+                            (["stlslice-slabs", "--words", part], "")):
+            ran = self.room.run(self.in_place("bin", words[0]), *words[1:], env={"PATH": "/usr/bin:/bin"})
+            assert ran.status == 0 and ran.out and told in ran.out, f"{words[0]}: {ran}"
+
+    def test_uninstall_removes_them_and_no_other(self):
+        """So it does with those of the library, if that is built."""
+        other = [f"DESTDIR={self.room.file('other')}", "PREFIX=/opt/here"]
+        self.room.make("install", *other)
+        self.room.put("other/opt/here/bin/other", "")
+        self.room.make("uninstall", *other)
+        same(files_below(self.room.file("other")), ["opt/here/bin/other"], "files after make uninstall")
 
 
-if __name__ == "__main__":
-    main()
+WARNINGS = ["-O2", "-Wall", "-Wextra", "-Wpedantic", "-Wconversion", "-Wshadow", "-Wcast-align", "-Werror"]
+GEAR = example("helical_gear.stl")
+
+
+def by_program(room, part):
+    """The picture of the preview, out of the program's stream: of each pixel the shade of its highest filled layer."""
+    words = ["--pitch", "100", "--layer", "100", "--rule", "positive"]
+    layers = layers_of(room.run("stlslice", *words, path=part, text=False).out)
+    columns, rows = len(layers[0][0]), len(layers[0])
+    shade = bytearray(columns * rows)
+    for k, layer in enumerate(layers):
+        for it in re.finditer(b"\xff", b"".join(layer)):
+            shade[it.start()] = 55 + 200 * k // len(layers)
+    return b"P5\n%d %d\n255\n" % (columns, rows) + shade
+
+
+@needs("make", "pkg-config", "cc", "readelf")
+class Library(Together):
+    @classmethod
+    def make_ready(cls, room):
+        cls.beside, cls.words = os.path.dirname(library()), [f"DESTDIR={room.file('root')}", "PREFIX=/opt/here"]
+        cls.prefix = room.file("root/opt/here")
+        room.make("install", *cls.words)
+        room.environment.update(PKG_CONFIG_PATH=f"{cls.prefix}/lib/pkgconfig", PKG_CONFIG_SYSROOT_DIR=room.file("root"))
+        source = re.search(r"(?ms)^## A preview in C\n.*?^```c\n(.*?)^```$", text_of("docs/embedding.md"))[1]
+        room.put("preview.c", source)
+
+    def pkg_config(self, *words):
+        return self.room.out("pkg-config", *words, "stlslice").split()
+
+    def compiled(self, name, *words):
+        compiler = shlex.split(os.environ.get("CC", "cc"))
+        built = self.room.run(*compiler, *WARNINGS, self.room.file("preview.c"), *words, "-o", self.room.file(name))
+        same(built, (0, "", ""), f"what the compiler says of {name}")
+        return self.room.file(name)
+
+    def static(self):
+        return self.compiled("static", *self.pkg_config("--cflags"), f"{self.prefix}/lib/libstlslice.a")
+
+    def test_each_file_is_in_its_place_as_built(self):
+        shared = f"libstlslice.so.{version()}"
+        found = [it for it in files_below(self.prefix) if it.startswith(("include/", "lib/"))]
+        wanted = ["libstlslice.a", "libstlslice.so", "libstlslice.so.1", shared, "pkgconfig/stlslice.pc"]
+        same(found, ["include/stlslice.h", *(f"lib/{it}" for it in wanted)], "files of the library")
+        for place, source, mode in (("include/stlslice.h", "include/stlslice.h", 0o644),
+                                    ("lib/libstlslice.a", f"{self.beside}/libstlslice.a", 0o644),
+                                    (f"lib/{shared}", f"{self.beside}/{shared}", 0o755)):
+            assert bytes_of(self.prefix, place) == bytes_of(source), f"{place} hasn't the bytes that were built"
+            same(mode_of(os.path.join(self.prefix, place)), mode, f"mode of {place}")
+        for link, target in (("libstlslice.so", "libstlslice.so.1"), ("libstlslice.so.1", shared)):
+            same(os.readlink(os.path.join(self.prefix, "lib", link)), target, f"what {link} leads to")
+        same(mode_of(os.path.join(self.prefix, "lib/pkgconfig/stlslice.pc")), 0o644, "mode of stlslice.pc")
+        told = self.room.run("readelf", "-d", os.path.join(self.prefix, "lib", shared)).out
+        same(re.findall(r"soname: \[(.*)\]", told), ["libstlslice.so.1"], "name of the shared library")
+        same(re.findall(r"NEEDED\).*\[(.*)\]", told), ["libc.so.6"], "libraries that it needs")
+
+    def test_pkg_config_finds_it(self):
+        same(self.pkg_config("--modversion"), [version()], "version of stlslice.pc")
+        words = [f"-I{self.prefix}/include", f"-L{self.prefix}/lib", "-lstlslice"]
+        same(self.pkg_config("--cflags", "--libs"), words, "words of pkg-config")
+
+    def test_the_preview_shows_the_programs_layers(self):
+        shared, static = self.compiled("shared", *self.pkg_config("--cflags", "--libs")), self.static()
+        same(self.room.run(shared, path=GEAR).status, 127, "status where the shared library isn't in its place")
+        wanted, env = by_program(self.room, GEAR), self.room.with_env(LD_LIBRARY_PATH=f"{self.prefix}/lib")
+        for program in (shared, static):
+            shown = self.room.out(program, path=GEAR, text=False, env=env if program == shared else self.room.environment)
+            assert shown == wanted, f"another picture by {program}"
+        ran = self.room.bash(f"{{ head -c {1 << 27} /dev/zero | tr '\\0' ' '; cat {GEAR}; }} | {static}", text=False)
+        assert ran.status == 0 and ran.out == wanted, "another picture behind 128 MiB of white space, through a pipe"
+
+    @needs("pngtopnm")
+    def test_the_documents_picture_is_that_of_the_preview(self):
+        drawn = self.room.run("pngtopnm", "docs/preview.png", text=False)
+        assert drawn.status == 0 and drawn.out == by_program(self.room, GEAR), "another picture"
+
+    def test_the_preview_of_a_bad_part_tells_the_programs_line(self):
+        cut, static = self.room.put("cut.stl", bytes_of(GEAR)[:9000]), self.static()
+        line = self.room.run("stlslice", "--box", path=cut).fault
+        told = self.room.run(static, path=cut)
+        same((told.status, told.out, "stlslice: " + told.fault), (1, "", line), "the preview of a part that is cut")
+        same(self.room.run(static).status, 1, "the preview of nothing")

@@ -1,15 +1,12 @@
-#!/usr/bin/env python3
-"""The library, if it is built, answers in C, C++ and Python what the program answers (library/test, which compiles edge.c, and runs
-calls.c, hostile.c, layers.c with checks.h and failing.h, and meshes.py), in no more memory than docs/embedding.md says.
-library/build makes the same bytes of the same proved library in any folder."""
+"""The library, if it is built, answers in C, C++ and Python what the program answers (library/test, which compiles edge.c,
+and runs calls.c, hostile.c, layers.c with checks.h and failing.h, and meshes.py), in no more memory than docs/embedding.md
+says. library/build makes the same bytes of the same proved library in any folder."""
 
 import os
 import re
-import shutil
 import sys
 
-from common import PROGRAM, ROOT, Room, holds, library, python_with, same, skip, text_of, version, wants
-
+from common import PROGRAM, ROOT, Case, library, needs, python_with, same, text_of, version
 
 MEASURE = """
 import sys, library, measure, stlslice
@@ -20,51 +17,41 @@ with open(sys.argv[2], "rb") as file:
 """
 
 
-def memory(room):
-    """Meshes of several sizes, opened from a text and from arrays, keep and take at most what the document says."""
-    told = re.search(r"at most (\d+) bytes a facet, .* takes up to (\d+) bytes a facet, and a mebibyte", text_of("docs/embedding.md"))
-    most, peak = map(int, told.groups())
-    paths = {"PYTHONPATH": f"{ROOT}/bench:{ROOT}/python", "PYTHONDONTWRITEBYTECODE": "1", "STLSLICE_LIBRARY": library()}
-    for size in (1000, 20000, 70000):
-        ran = room.run(sys.executable, "-c", MEASURE, str(size), room.file("ring.stl"), env={**room.environment, **paths})
-        same(f"status of measuring {size} facets", (ran.returncode, ran.stderr), (0, ""))
-        rows = [row.split(" ", 3) for row in ran.stdout.splitlines()]
-        same("what is opened", [row[3] for row in rows], ["a text", "arrays"])
-        for *numbers, name in rows:
-            facets, kept, taken = map(int, numbers)
-            print(f"{facets} facets of {name}: {kept} bytes kept, {taken} taken")
-            holds(f"a mesh of {name} keeps at most {most} bytes a facet", 0 < kept <= most * facets)
-            holds(f"opening {name} takes at most {peak} bytes a facet and a mebibyte", taken <= peak * facets + (1 << 20))
+@needs("cc", "c++", "objcopy", "rt")
+class Library(Case):
+    def setUp(self):
+        super().setUp()
+        self.beside = os.path.dirname(library())
 
+    def made(self, name):
+        proved = os.path.join(self.beside, "proved.a")
+        ran = self.room.run("library/build", "native", proved, self.room.file(name), version(), "/usr/local")
+        same(ran, (0, "", ""), f"status of library/build in {name}")
+        return {it: self.room.get(name, it) for it in os.listdir(self.room.file(name))}
 
-def made(room, name):
-    proved = os.path.join(os.path.dirname(library()), "proved.a")
-    ran = room.run("library/build", proved, version(), "/usr/local", room.file(name))
-    same(f"status of library/build in {name}", (ran.returncode, ran.stdout, ran.stderr), (0, "", ""))
-    found = {}
-    for it in sorted(os.listdir(room.file(name))):
-        with open(room.file(name, it), "rb") as file:
-            found[it] = file.read()
-    return found
+    def test_it_is_made_alike_in_any_folder(self):
+        first = self.made("one")
+        wanted = [f"libstlslice.{it}" for it in ("a", "so", "so.1", f"so.{version()}")]
+        same(sorted(first), sorted([*wanted, "proved.a", "stlslice.pc"]), "files of library/build")
+        assert first == self.made("another"), "other bytes"
 
+    def test_it_keeps_and_takes_the_memory_that_is_told(self):
+        """Meshes of several sizes, opened from a text and from arrays."""
+        told = r"at most (\d+) bytes a facet, .* takes up to (\d+) bytes a facet, and a mebibyte"
+        most, peak = map(int, re.search(told, text_of("docs/embedding.md")).groups())
+        env = self.room.with_env(PYTHONPATH=f"{ROOT}/bench:{ROOT}/python", STLSLICE_LIBRARY=library())
+        for size in (1000, 20000, 70000):
+            told = self.room.out(sys.executable, "-c", MEASURE, str(size), self.room.file("ring.stl"), env=env)
+            rows = [row.split(" ", 3) for row in told.splitlines()]
+            same([row[3] for row in rows], ["a text", "arrays"], "what is opened")
+            for *numbers, name in rows:
+                facets, kept, taken = map(int, numbers)
+                assert 0 < kept <= most * facets, f"{name} of {facets} facets keeps {kept} bytes"
+                assert taken <= peak * facets + (1 << 20), f"{name} of {facets} facets takes {taken} bytes"
 
-def main():
-    library()
-    wants(("cc", "gcc"), ("c++", "g++"), ("objcopy", "binutils"))
-    if not shutil.which("rt"):
-        skip("rt is missing: it comes with the Rattle toolchain")
-    with Room() as room:
-        first = made(room, "one")
-        same("files of library/build", sorted(first), sorted(["libstlslice.a", "libstlslice.so", "libstlslice.so.1",
-                                                              f"libstlslice.so.{version()}", "proved.a", "stlslice.pc"]))
-        holds("both libraries are the same bytes", first == made(room, "another"))
-        memory(room)
-        ran = room.run(python_with(room, "numpy"), "library/test", os.path.dirname(library()), PROGRAM)
-        print(ran.stdout + ran.stderr)
-        same("status and last line of library/test", (ran.returncode, ran.stdout.splitlines()[-1:]), (0, ["passed"]))
-    if "numpy is missing" in ran.stdout:
-        skip("numpy is missing (Debian: python3-numpy): the Python of docs/embedding.md was not tried")
-
-
-if __name__ == "__main__":
-    main()
+    def test_it_answers_what_the_program_answers(self):
+        ran = self.room.run(python_with("numpy"), "library/test", self.beside, PROGRAM)
+        print(ran.out + ran.fault)
+        same((ran.status, ran.out.splitlines()[-1:]), (0, ["passed"]), "status and last line of library/test")
+        if "numpy is missing" in ran.out:
+            self.leave_out("numpy is missing (Debian: python3-numpy): the Python of docs/embedding.md")

@@ -1,191 +1,117 @@
-#!/usr/bin/env python3
-"""The limits that documents, --help, the manual, the completions, the header, the commands, the pages and tests spell are the
-constants of the sources."""
+"""The limits that documents, --help, the manual, the completions, the header, the commands, the pages and tests spell are
+the constants of the sources."""
 
-import ast
 import glob
-import operator
 import os
 import re
 
-from common import ROOT, Room, holds, same, text_of
-
-OPERATORS = {ast.Add: operator.add, ast.Sub: operator.sub, ast.Mult: operator.mul, ast.Div: operator.floordiv,
-             ast.LShift: operator.lshift}
+from common import ROOT, Case, same, text_of
 
 # For each constant the places that spell it, with the words around it: {} is its number, {m} that of its metres, {K} and {M}
 # that of its KiB and MiB. A word stands for a small number.
 SPELLED = {
     "geometry::COORDINATE_LIMIT": [
-        ("docs/usage.md", "the least corner, -{} to {} µm"),
-        ("docs/usage.md", "within {m} metres of the origin"),
-        ("docs/formats.md", "has to lie in -{} to {}."),
-        ("man/stlslice.1", r"\-{} to {}."),
-        ("man/stlslice.1", "within {m} m of the origin"),
-        ("include/stlslice.h", "each at most {} from 0"),
-        ("docs/PROVED.md", "at most {m} metres up"),
+        ("docs/usage.md", "the least corner, -{} to {} µm", "within {m} metres of the origin"),
+        ("docs/formats.md", "has to lie in -{} to {}."), ("man/stlslice.1", r"\-{} to {}.", "within {m} m of the origin"),
+        ("include/stlslice.h", "each at most {} from 0"), ("docs/PROVED.md", "at most {m} metres up"),
         ("python/stlslice/__init__.py", "points at most {m} metres from 0"),
-        ("commands/stlslice_commands/shells.py", "REACH = {}"),
+        ("commands/stlslice_commands/stl.py", "REACH = {}"),
         ("commands/stlslice_commands/shells.py", "within {m} m of the origin"),
-        ("crates/test_meshes/src/published.rt", "FARTHEST: i32 = {};"),
-    ],
+        ("crates/test_meshes/src/published.rt", "FARTHEST: i32 = {};")],
     "geometry::CENTRE_LIMIT": [
         ("docs/formats.md", "is above {}; equal is allowed"),
-        ("crates/test_meshes/src/published.rt", "FARTHEST_CENTRE: i64 = {};"),
-    ],
+        ("crates/test_meshes/src/published.rt", "FARTHEST_CENTRE: i64 = {};")],
     "geometry::STEP_LIMIT": [
-        ("--help", "Width and depth of a pixel in micrometres, 1 to {}"),
-        ("--help", "Height of a layer in micrometres, 1 to {}"),
-        ("docs/usage.md", "| `--pitch N` | 1 to {} µm |"),
-        ("docs/usage.md", "| `--layer N` | 1 to {} µm |"),
-        ("man/stlslice.1", "Width and depth of a pixel in micrometres, 1 to {}."),
-        ("man/stlslice.1", "Height of a layer in micrometres, 1 to {}."),
-        ("completions/_stlslice", "pixel in micrometres]:micrometres (1 to {})"),
-        ("completions/_stlslice", "layer in micrometres]:micrometres (1 to {})"),
-        ("completions/stlslice.fish", "pixel in micrometres, 1 to {}"),
-        ("completions/stlslice.fish", "layer in micrometres, 1 to {}"),
-        ("include/stlslice.h", "along x and y, 1 to {} "),
-        ("include/stlslice.h", "along z, 1 to {} "),
-        ("docs/refused.md", "1..={}"),
+        ("--help", "Width and depth of a pixel in micrometres, 1 to {}", "Height of a layer in micrometres, 1 to {}"),
+        ("docs/usage.md", "| `--pitch N` | 1 to {} µm |", "| `--layer N` | 1 to {} µm |"),
+        ("man/stlslice.1", "Width and depth of a pixel in micrometres, 1 to {}.",
+         "Height of a layer in micrometres, 1 to {}."),
+        ("completions/_stlslice", "pixel in micrometres]:micrometres (1 to {})",
+         "layer in micrometres]:micrometres (1 to {})"),
+        ("completions/stlslice.fish", "pixel in micrometres, 1 to {}", "layer in micrometres, 1 to {}"),
+        ("include/stlslice.h", "along x and y, 1 to {} ", "along z, 1 to {} "), ("docs/refused.md", "1..={}"),
         ("commands/stlslice_commands/slicing.py", "LARGEST_PITCH = {}"),
         ("commands/stlslice_commands/page.py", "LARGEST = {} # micrometres"),
-        ("library/web/preview.html", 'id="pitch" value="50" min="1" max="{}"'),
-        ("library/web/preview.html", 'id="height" value="50" min="1" max="{}"'),
+        ("library/web/preview.html", 'id="pitch" value="50" min="1" max="{}"', 'id="height" value="50" min="1" max="{}"'),
         ("library/tests/calls.c", "pitch and layer height take 1 to {} micrometres"),
         ("library/tests/hostile.c", "pitch and layer height take 1 to {} micrometres"),
         ("library/tests/meshes.py", "pitch and layer height take 1 to {} micrometres"),
-        ("crates/test_meshes/src/published.rt", "GREATEST_STEP: u32 = {};"),
-    ],
+        ("crates/test_meshes/src/published.rt", "GREATEST_STEP: u32 = {};")],
     "geometry::COLUMN_LIMIT": [
-        ("--help", "three counts (at most {}, {} and"),
-        ("docs/usage.md", "counts up to {}, {} and"),
-        ("docs/formats.md", "At most {} columns and rows,"),
-        ("man/stlslice.1", "most {}, {} and"),
-        ("include/stlslice.h", "at most {}, {} and"),
-        ("docs/refused.md", "{} columns and rows"),
-        ("SECURITY.md", "The grid may have {} x {} x"),
-        ("README.md", "{} pixels a side"),
-        ("library/web/preview.html", 'id="columns" value="2560" min="1" max="{}"'),
-        ("library/web/preview.html", 'id="rows" value="1620" min="1" max="{}"'),
-        ("crates/test_meshes/src/published.rt", "MOST_COLUMNS: u32 = {};"),
-    ],
+        ("--help", "three counts (at most {}, {} and"), ("docs/usage.md", "counts up to {}, {} and"),
+        ("docs/formats.md", "At most {} columns and rows,"), ("man/stlslice.1", "most {}, {} and"),
+        ("include/stlslice.h", "at most {}, {} and"), ("docs/refused.md", "{} columns and rows"),
+        ("SECURITY.md", "The grid may have {} x {} x"), ("README.md", "{} pixels a side"),
+        ("library/web/preview.html", 'id="columns" value="2560" min="1" max="{}"',
+         'id="rows" value="1620" min="1" max="{}"'), ("crates/test_meshes/src/published.rt", "MOST_COLUMNS: u32 = {};")],
     "geometry::LAYER_LIMIT": [
-        ("--help", " and {}), and its least"),
-        ("docs/usage.md", " and {}; the least corner"),
-        ("docs/formats.md", "rows, {} layers."),
-        ("man/stlslice.1", " and {}, and its least corner"),
-        ("include/stlslice.h", " and {} */"),
-        ("docs/refused.md", "{} layers"),
-        ("SECURITY.md", " x {} voxels"),
-        ("crates/test_meshes/src/published.rt", "MOST_LAYERS: u32 = {};"),
-    ],
+        ("--help", " and {}), and its least"), ("docs/usage.md", " and {}; the least corner"),
+        ("docs/formats.md", "rows, {} layers."), ("man/stlslice.1", " and {}, and its least corner"),
+        ("include/stlslice.h", " and {} */"), ("docs/refused.md", "{} layers"), ("SECURITY.md", " x {} voxels"),
+        ("crates/test_meshes/src/published.rt", "MOST_LAYERS: u32 = {};")],
+    "binary_stl::TEXT_LIMIT": [("docs/formats.md", "none below {} bytes")],
     "geometry::FACET_LIMIT": [
-        ("docs/usage.md", "A mesh has at most {} facets"),
-        ("docs/embedding.md", "a mesh has at most {} facets"),
-        ("man/stlslice.1", "a mesh has at most {} facets"),
-        ("docs/refused.md", "More than {} facets"),
-        ("SECURITY.md", "and the mesh {} facets"),
-        ("README.md", "at most {} facets and"),
-        ("docs/printing.md", "| more than {} facets |"),
-        ("docs/printing.md", "[more than {} facets]"),
-        ("man/stlslice-sl1.1", "more than {} facets"),
-        ("man/stlslice-pngs.1", "more than {} facets"),
-        ("commands/stlslice_commands/shells.py", "LIMIT = {}"),
+        ("docs/formats.md", "more than {} facets, told"), ("docs/usage.md", "A mesh has at most {} facets"),
+        ("docs/embedding.md", "a mesh has at most {} facets"), ("man/stlslice.1", "a mesh has at most {} facets"),
+        ("docs/refused.md", "More than {} facets"), ("SECURITY.md", "and the mesh {} facets"),
+        ("README.md", "at most {} facets and"), ("docs/printing.md", "| more than {} facets |", "[more than {} facets]"),
+        ("man/stlslice-sl1.1", "more than {} facets"), ("man/stlslice-pngs.1", "more than {} facets"),
+        ("commands/stlslice_commands/stl.py", "FACETS = {}"),
         ("commands/stlslice_commands/words.py", "more than {} facets"),
         ("commands/stlslice_commands/program.py", "a mesh has at most {} facets"),
-        ("library/tests/hostile.c", "most = {};"),
-    ],
+        ("library/tests/hostile.c", "most = {};")],
     "stripe_claims::PASS_LIMIT": [
-        ("--help", "Number of threads, 1 to {}"),
-        ("docs/usage.md", "| `--workers N` | 1 to {}; default"),
-        ("man/stlslice.1", "slice and draw, 1 to {}."),
-        ("completions/_stlslice", "number (1 to {}):"),
-        ("completions/stlslice.fish", "slice and draw, 1 to {} "),
-        ("docs/PROVED.md", "1 to {} workers"),
+        ("--help", "Number of threads, 1 to {}"), ("docs/usage.md", "| `--workers N` | 1 to {}; default"),
+        ("man/stlslice.1", "slice and draw, 1 to {}."), ("completions/_stlslice", "number (1 to {}):"),
+        ("completions/stlslice.fish", "slice and draw, 1 to {} "), ("docs/PROVED.md", "1 to {} workers"),
         ("docs/decisions/single-worker.md", "has 1 to {} workers"),
         ("docs/printing.md", "at most {} | threads of the slicer, 1 to {} |"),
-        ("commands/stlslice_commands/words.py", "MOST_WORKERS = {}"),
-        ("commands/stlslice_commands/words.py", "threads of the slicer, 1 to {} ("),
+        ("commands/stlslice_commands/words.py", "MOST_WORKERS = {}", "threads of the slicer, 1 to {} ("),
         ("commands/stlslice_commands/page.py", "threads of the slicer, 1 to {} ("),
         *((f"man/stlslice-{it}.1", "Threads of the slicer, 1 to {}.") for it in ("sl1", "pngs", "page")),
         *((f"completions/_stlslice-{it}", "threads of the slicer]:number (1 to {}):") for it in ("sl1", "page")),
-        *((f"completions/stlslice-{it}.fish", "Threads of the slicer, 1 to {}'") for it in ("sl1", "page")),
-    ],
+        *((f"completions/stlslice-{it}.fish", "Threads of the slicer, 1 to {}'") for it in ("sl1", "page"))],
     "micro_num::WORD_LIMIT": [
-        ("docs/formats.md", "At most {} bytes."),
-        ("docs/refused.md", "{} bytes"),
-        ("commands/stlslice_commands/shells.py", "LONGEST = {} # bytes of a number"),
-    ],
+        ("docs/formats.md", "At most {} bytes."), ("docs/refused.md", "{} bytes"),
+        ("commands/stlslice_commands/stl.py", "LONGEST = {} # bytes of a number")],
     "stl_text::WORD_FRONT": [
         ("docs/decisions/front-of-a-word.md", "keeps the first {} bytes of such a word"),
-        ("docs/usage.md", "holds the first {} bytes of a word"),
-    ],
-    "mesh_reading::LEAST_READ": [
-        ("docs/decisions/front-of-a-word.md", "is offered at least {} bytes (`LEAST_READ`)"),
-    ],
-    "build_book::STRIPE_LAYERS": [
-        ("docs/ARCHITECTURE.md", "draws stripes of {} layers"),
-        ("docs/ARCHITECTURE.md", "**Stripe**: {} layers"),
-    ],
+        ("docs/usage.md", "holds the first {} bytes of a word")],
+    "mesh_reading::LEAST_READ": [("docs/decisions/front-of-a-word.md", "is offered at least {} bytes (`LEAST_READ`)")],
+    "build_book::STRIPE_LAYERS": [("docs/ARCHITECTURE.md", "draws stripes of {} layers", "**Stripe**: {} layers")],
     "mesh_reading::WORKER_LEN": [
         ("docs/usage.md", "A round is {M} mebibyte for each worker"),
-        ("docs/decisions/rounds-and-parts.md", "A round is {M} mebibyte for each worker"),
-    ],
+        ("docs/decisions/rounds-and-parts.md", "A round is {M} mebibyte for each worker")],
     "mesh_reading::ROUND_LIMIT": [
         ("docs/usage.md", "for each worker, at most {M}, and"),
-        ("docs/decisions/rounds-and-parts.md", "for each worker, at most {M}."),
-    ],
-    "mesh_reading::WINDOW_LEN": [
-        ("docs/usage.md", "and up to {K} KiB more"),
-    ],
-    "stl_text::PARTS_OF_A_WORKER": [
-        ("docs/decisions/rounds-and-parts.md", "Each round has {} parts for each worker"),
-    ],
+        ("docs/decisions/rounds-and-parts.md", "for each worker, at most {M}.")],
+    "mesh_reading::WINDOW_LEN": [("docs/usage.md", "and up to {K} KiB more")],
+    "stl_text::PARTS_OF_A_WORKER": [("docs/decisions/rounds-and-parts.md", "Each round has {} parts for each worker")],
     "stlslice::SET_LEN": [
         ("docs/usage.md", "A set takes at most {M} MiB"),
-        ("docs/decisions/pages-for-dense-images.md", "A set has at most {M} MiB (`SET_LEN`)"),
-    ],
+        ("docs/decisions/pages-for-dense-images.md", "A set has at most {M} MiB (`SET_LEN`)")],
     "stlslice::DRAWN_LIMIT": [
         ("docs/usage.md", "An image of more than {M} mebibyte"),
-        ("docs/decisions/pages-for-dense-images.md", "larger images than {M} mebibyte (`DRAWN_LIMIT`)"),
-    ],
-    "stlslice::PAGE_LEN": [
-        ("docs/decisions/pages-for-dense-images.md", "has at most {M} mebibyte (`PAGE_LEN`)"),
-    ],
-    "stlslice::FEW_SPANS": [
-        ("docs/decisions/pages-for-dense-images.md", "more than {} spans a row on average"),
-    ],
-    "raster::CHUNK_LEN": [
-        ("docs/decisions/one-chunk-for-images.md", "one chunk of {K} KiB (`CHUNK_LEN`)"),
-    ],
-    "raster::IN_PLACE": [
-        ("docs/decisions/crossings-in-place.md", "with {} in place (`IN_PLACE`"),
-    ],
-    "exact_cut::LEADING_BITS": [
-        ("docs/decisions/quotients-by-guess.md", "the leading {} bits of both"),
-    ],
-    "mesh_weld::STEPS_A_FACET": [
-        ("docs/decisions/edges-in-chains.md", "{} steps a facet and"),
-    ],
-    "mesh_weld::LEAST_CHAINED": [
-        ("docs/decisions/edges-in-chains.md", "below {} facets (`LEAST_CHAINED`)"),
-    ],
-    "mesh_weld::LEAST_COUNTED": [
-        ("docs/decisions/facets-by-counting-sort.md", "from {} facets on (`LEAST_COUNTED`)"),
-    ],
+        ("docs/decisions/pages-for-dense-images.md", "larger images than {M} mebibyte (`DRAWN_LIMIT`)")],
+    "stlslice::PAGE_LEN": [("docs/decisions/pages-for-dense-images.md", "has at most {M} mebibyte (`PAGE_LEN`)")],
+    "stlslice::FEW_SPANS": [("docs/decisions/pages-for-dense-images.md", "more than {} spans a row on average")],
+    "raster::CHUNK_LEN": [("docs/decisions/one-chunk-for-images.md", "one chunk of {K} KiB (`CHUNK_LEN`)")],
+    "raster::IN_PLACE": [("docs/decisions/crossings-in-place.md", "with {} in place (`IN_PLACE`")],
+    "exact_cut::LEADING_BITS": [("docs/decisions/quotients-by-guess.md", "the leading {} bits of both")],
+    "mesh_weld::STEPS_A_FACET": [("docs/decisions/edges-in-chains.md", "{} steps a facet and")],
+    "mesh_weld::LEAST_CHAINED": [("docs/decisions/edges-in-chains.md", "below {} facets (`LEAST_CHAINED`)")],
+    "mesh_weld::LEAST_COUNTED": [("docs/decisions/facets-by-counting-sort.md", "from {} facets on (`LEAST_COUNTED`)")],
 }
 
 SMALL = {1: "a", 4: "four", 8: "eight"}
 
 
 def plain(text):
-    """A text in one line, its numbers as bare digits."""
     return " ".join(re.sub(r"(?<=\d)[,_](?=\d{3}(?!\d))", "", text).split())
 
 
 def said():
-    """How each constant of the sources is computed, by its crate and name, except those of tests, and names that a crate has
-    twice."""
+    """How each constant of the sources is computed, by its crate and name, if a crate has it once and isn't one of tests."""
     found, many = {}, set()
     paths = glob.glob(f"{ROOT}/crates/*/src/**/*.rt", recursive=True)
     for path in (it for it in paths if not re.search(r"_tests/src/|/tests(/|\.rt$)", it)):
@@ -197,18 +123,12 @@ def said():
 
 
 def constants():
-    """The value of each constant whose spellings are known."""
     texts = said()
 
     def value_of(crate, name):
         home = crate if (crate, name) in texts else next(it for it, named in texts if named == name)
-        text = re.sub(r"\bas \w+|(?<=\d)_(?=\d)", "", texts[home, name]).strip()
-        return reckoned(home, ast.parse(text, mode="eval").body)
-
-    def reckoned(crate, tree):
-        if isinstance(tree, ast.BinOp):
-            return OPERATORS[type(tree.op)](reckoned(crate, tree.left), reckoned(crate, tree.right))
-        return value_of(crate, tree.id) if isinstance(tree, ast.Name) else tree.value
+        text = re.sub(r"\bas \w+|(?<=\d)_(?=\d)", "", texts[home, name]).strip().replace("/", "//")
+        return eval(text, {}, {it: value_of(home, it) for it in re.findall(r"\b[A-Z_]+\b", text)})
 
     keys = [(name, tuple(name.split("::"))) for name in SPELLED]
     return {name: value_of(*key) for name, key in keys if key in texts}
@@ -224,23 +144,21 @@ def spellings(pattern, value):
     return {plain(digits), plain(words)}
 
 
-def main():
-    with Room() as room:
-        told = room.run("stlslice", "--help").stdout
-    found = constants()
-    same("constants that their crates have once", sorted(found), sorted(SPELLED))
-    for name, places in SPELLED.items():
-        for place, pattern in places:
-            text = plain(told if place == "--help" else text_of(place))
-            spelled = spellings(pattern, found[name])
-            holds(f"{place} tells {name} as {' or '.join(sorted(spelled))}", any(re.search(rf"(?<!\d){re.escape(it)}(?!\d)", text) for it in spelled))
-    told = re.search(r"up to (\d+) mm", text_of("docs/decisions/facets-by-counting-sort.md"))[1]
-    same("the millimetres that a counting sort takes", told, str(2 ** group_bits() // 1000))
-
-
 def group_bits():
     return int(re.search(r"const GROUP_BITS: u32 = (\d+);", text_of("crates/mesh_weld/src/by_hash/histogram.rt"))[1])
 
 
-if __name__ == "__main__":
-    main()
+class Limits(Case):
+    def test_what_is_spelled_is_the_constant(self):
+        told, found = self.room.run("stlslice", "--help").out, constants()
+        same(sorted(found), sorted(SPELLED), "constants that their crates have once")
+        for name, places in SPELLED.items():
+            for place, *patterns in places:
+                text = plain(told if place == "--help" else text_of(place))
+                for spelled in (spellings(it, found[name]) for it in patterns):
+                    is_told = any(re.search(rf"(?<!\d){re.escape(it)}(?!\d)", text) for it in spelled)
+                    assert is_told, f"{place} doesn't tell {name} as {' or '.join(sorted(spelled))}"
+
+    def test_the_millimetres_of_a_counting_sort_are_its_bits(self):
+        told = re.search(r"up to (\d+) mm", text_of("docs/decisions/facets-by-counting-sort.md"))[1]
+        same(told, str(2 ** group_bits() // 1000), "millimetres")

@@ -1,16 +1,13 @@
-#!/usr/bin/env -S python3 -B
 """Texts that are long in one place are answered rightly, in time that grows with their length, in little memory: the
 texts of bench/long_texts.py at a fiftieth of their size. Two gigabytes are 40 MB here, which already wouldn't fit in the
 memory that is allowed. A stand-in whose time grows as the square of the length is told from the program."""
 
-import os
 import sys
 
-from parts import ROOT, main
+from common import PROGRAM, Case
+from long_texts import texts, try_all, try_text
 
-sys.path.insert(0, os.path.join(ROOT, "bench"))
-from long_texts import try_all, try_text, texts  # noqa: E402
-
+ALONE = True
 PART = 50
 # A program that takes this many seconds of processor time for the whole text, and a sixteenth of them for a quarter.
 SECONDS = 1
@@ -26,19 +23,13 @@ sys.stdout.write({answer!r})
 """
 
 
-def long_texts_take_little_memory(program, folder):
-    wrong = try_all(program, PART)
-    assert not wrong, "\n".join(wrong)
+class LongTexts(Case):
+    def test_long_texts_take_little_memory(self):
+        wrong = try_all(PROGRAM, PART)
+        assert not wrong, "\n".join(wrong)
 
-
-def a_program_is_slow_if_its_time_grows_as_the_square(program, folder):
-    text, path = next(texts(PART)), os.path.join(folder, "slow")
-    with open(path, "w", encoding="utf-8") as file:
-        file.write(SLOW.format(python=sys.executable, seconds=SECONDS, whole=text.length, answer=text.answer[1].decode()))
-    os.chmod(path, 0o755)
-    wrong = try_text(path, text)
-    assert any(it.endswith("s for a quarter of the length") for it in wrong), f"the slow program is not told: {wrong}"
-
-
-if __name__ == "__main__":
-    main([long_texts_take_little_memory, a_program_is_slow_if_its_time_grows_as_the_square])
+    def test_a_program_is_slow_if_its_time_grows_as_the_square(self):
+        text = next(texts(PART))
+        body = SLOW.format(python=sys.executable, seconds=SECONDS, whole=text.length, answer=text.answer[1].decode())
+        wrong = try_text(self.room.put("slow", body, 0o755), text)
+        assert any(it.endswith("s for a quarter of the length") for it in wrong), f"the slow program is not told: {wrong}"

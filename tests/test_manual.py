@@ -1,61 +1,61 @@
-#!/usr/bin/env python3
-"""mandoc reports no fault in the manuals, and shows the program's with each heading. Their examples run as they are shown."""
+"""mandoc finds no fault in the manuals, and shows the program's with each heading. Their examples run as they are shown."""
 
 import glob
-import os
 import re
 import shutil
 
-from common import ROOT, Room, ended, holds, leave_out, same, skip, text_of
+from common import ROOT, Case, bytes_of, lacking, needs, same, text_of
 
 HEADINGS = ["NAME", "SYNOPSIS", "DESCRIPTION", "EXIT STATUS", "EXAMPLES", "DIAGNOSTICS", "SEE ALSO", "CAVEATS"]
+COMMANDS = ["stlslice-sl1", "stlslice-pngs", "stlslice-page", "stlslice-slabs"]
 
 
-def examples(shown):
-    """The examples as a reader pastes them: what a terminal of 80 columns shows after a prompt, with the lines that go
-    on after a backslash."""
-    part = re.split(r"\n[A-Z]", shown.split("\nEXAMPLES\n")[1])[0]
-    return re.findall(r"(?m)^ +\$ ((?:.*\\\n)*.*)$", part)
+@needs("mandoc")
+class Manuals(Case):
+    def shown(self, name):
+        return re.sub(".\x08", "", self.room.run("mandoc", "-T", "utf8", "-O", "width=78", f"man/{name}.1").out)
 
+    def examples(self, name):
+        """The examples as a reader pastes them: what follows a prompt, with the lines that go on after a backslash."""
+        part = re.split(r"\n[A-Z]", self.shown(name).split("\nEXAMPLES\n")[1])[0]
+        return re.findall(r"(?m)^ +\$ ((?:.*\\\n)*.*)$", part)
 
-def main():
-    if not shutil.which("mandoc"):
-        skip("mandoc is missing (Debian: mandoc)")
-    with Room() as room:
-        for path in sorted(glob.glob("man/*.1")):
-            told = room.run("mandoc", "-T", "lint", path)
+    def test_mandoc_finds_no_fault(self):
+        for path in sorted(glob.glob(f"{ROOT}/man/*.1")):
+            told = self.room.run("mandoc", "-T", "lint", path).out.splitlines()
             # the manuals that these refer to needn't be installed here
-            said = [line for line in told.stdout.splitlines() if "referenced manual not found: Xr stlslice" not in line]
-            same(f"what mandoc has to say of {path}", said, [])
-        shown = room.run("mandoc", "-T", "utf8", "-O", "width=78", "man/stlslice.1").stdout
-        shown = re.sub(".\x08", "", shown)
+            said = [line for line in told if "referenced manual not found: Xr stlslice" not in line]
+            same(said, [], f"what mandoc has to say of {path}")
+
+    def test_each_heading_is_shown(self):
+        shown = self.shown("stlslice")
         for heading in HEADINGS:
-            holds(f"the heading {heading}", re.search(rf"(?m)^{heading}$", shown))
+            assert re.search(rf"(?m)^{heading}$", shown), f"no heading {heading}"
+
+    def test_the_line_of_an_open_mesh_is_the_programs(self):
         fault = re.search(r"(?m)^\.Dl (stlslice: .*)$", text_of("man/stlslice.1"))[1]
-        broken = room.run("bash", "-c", "stlslice --pitch 50 --layer 50 < <(sed 2,8d examples/bracket.stl)")
-        same("the line of an open mesh", broken.stderr, fault + "\n")
-        lines = examples(shown)
-        holds("five examples are shown", len(lines) == 5)
-        with open("examples/bracket.stl", "rb") as part, open(room.file("part.stl"), "wb") as copy:
-            copy.write(part.read())
-        for name in ("stlslice-sl1", "stlslice-pngs", "stlslice-page", "stlslice-slabs"):
-            holds(f"{name}: the statuses of signals are told",
-                  "129, 130 or 143 if SIGHUP, SIGINT or SIGTERM ended it" in " ".join(text_of(f"man/{name}.1").split()))
-        for name in ("stlslice-sl1", "stlslice-pngs", "stlslice-slabs"):
-            shown = re.sub(".\x08", "", room.run("mandoc", "-T", "utf8", "-O", "width=78", f"man/{name}.1").stdout)
-            found = examples(shown)
-            holds(f"{name}: examples are shown", found and all(f"{name} " in line for line in found))
-            if name == "stlslice-slabs" and not shutil.which("parallel"):
-                leave_out("parallel is missing (Debian: parallel): the examples of stlslice-slabs were not tried")
+        broken = self.room.bash("stlslice --pitch 50 --layer 50 < <(sed 2,8d examples/bracket.stl)")
+        same(broken.fault, fault + "\n", "the line of an open mesh")
+
+    def test_the_statuses_of_signals_are_told(self):
+        for name in COMMANDS:
+            told = " ".join(text_of(f"man/{name}.1").split())
+            assert "129, 130 or 143 if SIGHUP, SIGINT or SIGTERM ended it" in told, name
+
+    def test_examples_run_as_they_are_shown(self):
+        lines = self.examples("stlslice")
+        same(len(lines), 5, "examples of stlslice")
+        for name in COMMANDS:
+            found = self.examples(name)
+            assert found and all(f"{name} " in line for line in found), f"{name}: examples {found}"
+            if name == "stlslice-slabs" and lacking("parallel"):
+                self.leave_out(f"the examples of stlslice-slabs: {lacking('parallel')}")
             else:
                 lines += found
-        path = f"{room.environment['PATH'].split(':')[0]}:{ROOT}/commands:{os.environ['PATH']}"
+        same(len(re.findall(r"(?m)^\.Dl \$ (.*)$", text_of("man/stlslice-page.1"))), 2, "examples of stlslice-page")
+        self.room.put("part.stl", bytes_of("examples/bracket.stl"))
+        bin, rest = self.room.environment["PATH"].split(":", 1)
         for line in lines:
-            shutil.rmtree(room.file("layers"), ignore_errors=True)
-            ran = room.run("bash", "-c", line, cwd=room.path, env={**room.environment, "PATH": path})
-            same(f"status and fault of: {line}", (ran.returncode, ran.stderr), (0, ""))
-    ended()
-
-
-if __name__ == "__main__":
-    main()
+            shutil.rmtree(self.room.file("layers"), ignore_errors=True)
+            env = self.room.with_env(PATH=f"{bin}:{ROOT}/commands:{rest}")
+            self.room.out("bash", "-c", line, cwd=self.room.path, env=env)

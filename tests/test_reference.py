@@ -1,4 +1,3 @@
-#!/usr/bin/env python3
 """make docs: the reference has each public item and each definition, no link leads nowhere, and nothing in it comes from a
 network. What has to be believed of `run` holds the definitions that its promise is about, and counts its lines rightly. Its
 search box finds a definition, which is tried if Chromium is there."""
@@ -7,42 +6,33 @@ import glob
 import html
 import os
 import re
-import shutil
 import sys
 
-from common import ROOT, Room, ended, holds, leave_out, same, text_of
+from common import ROOT, Together, needs, same, text_of
+import browser
 
-CHROMIUM = shutil.which("chromium") or shutil.which("chromium-browser") or shutil.which("google-chrome")
-
-
-def read(folder):
-    """Each page by its name, with its marks."""
-    pages = {}
-    for path in glob.glob(os.path.join(folder, "*.html")):
-        with open(path, encoding="utf-8") as file:
-            text = file.read()
-        pages[os.path.basename(path)] = (text, re.findall(r'\bid="([^"]*)"', text))
-    return pages
-
-
-def links(folder, pages):
-    count = 0
-    for page, (text, marks) in pages.items():
-        same(f"marks that {page} has twice", sorted({it for it in marks if marks.count(it) > 1}), [])
-        for place in re.findall(r'(?:href|src)="([^"]*)"', text):
-            target, _, mark = place.partition("#")
-            is_there = os.path.exists(os.path.join(folder, target)) and (not mark or mark in pages[target or page][1])
-            count += 1
-            if not is_there:
-                sys.exit(f"{page}: {place} isn't there")
-    holds(f"{count} links lead somewhere", count > 5000)
+# Contracts lead to the definitions that they cite, however these are imported: by name, by another name, by a module, as a
+# case or as a constant.
+LED_TO = (("stlslice", "stlslice.specs.html#Run.IsRun"), ("stlslice", "stlslice.specs.html#WrittenPixels.IsSlicedFrom"),
+          ("stlslice", "micro_num.html#Unit"), ("geometry", "geometry.specs.html#TieRule.is_below"),
+          ("raster", "geometry.html#COLUMN_LIMIT"), ("layer_session", "layer_session.html#SessionFault"))
+# What has to be believed: the page, the crate and the call that it is about, and some of what stands in it.
+BELIEVED = (
+    ("believe-slice.html", "stlslice.run",
+     ["stlslice.Run.IsRun", "stlslice.Outcome.IsOutcome", "mesh_weld.Balance.IsBalanced", "geometry.Winding.ray",
+      "geometry.TieRule.is_below", "raster.Rule.is_inside", "raster.Image.images", "devices.Source", "devices.Sink"]),
+    ("believe-text.html", "stl_text.Text.Reads", ["stl_text.Text.IsFaultOf", "micro_num.Micrometres.micro"]),
+    ("believe-png.html", "stlslice.SlicedText.pngs", ["layer_png.Text.layer_png"]),
+    ("believe-box.html", "stlslice.Outcome.box_text", ["stlslice.Outcome.probed", "contour.Loops.loops", "geometry.Winding.ray_y"]),
+    ("believe-words.html", "task_words.read_words", ["task_words.Words.StandFor", "task_words.Words.options", "task_words.Options.said"]),
+    ("believe-mask.html", "stlslice_c.stlslice_mask",
+     ["stlslice_c.Answers.IsMaskAnswer", "raster.Image.layer_image", "geometry.Winding.ray", "raster.Rule.is_inside"]))
 
 
 def public_names():
-    """The names that each crate's lib.rt makes public, read by themselves: the crate, the name, and whether it is its own."""
+    """The names that each crate's lib.rt makes public: the crate, the name, and whether it is its own."""
     for path in sorted(glob.glob(f"{ROOT}/crates/*/src/lib.rt")):
-        crate = path.split("/")[-3]
-        text = text_of(path)
+        crate, text = path.split("/")[-3], text_of(path)
         modules = set(re.findall(r"(?m)^mod (\w+);", text))
         for use, names in re.findall(r"(?m)^pub use ([\w:]+)::(\{[^}]*\}|\w+);", text):
             for name in re.findall(r"\w+", names):
@@ -52,7 +42,6 @@ def public_names():
 
 
 def methods():
-    """The public methods of public types: the crate, the type and the name."""
     public = {(crate, name) for crate, name, is_own in public_names() if is_own}
     for path in sorted(glob.glob(f"{ROOT}/crates/*/src/**/*.rt", recursive=True)):
         crate = os.path.relpath(path, f"{ROOT}/crates").split("/")[0]
@@ -63,99 +52,79 @@ def methods():
                     yield crate, owner[0], name
 
 
-def items(pages):
-    count = 0
-    for crate, name, is_own in public_names():
-        text, marks = pages[f"{crate}.html"]
-        count += 1
-        if not (name in marks if is_own else f"#{name}\"" in text):
-            sys.exit(f"{crate}.html has no {name}")
-    holds(f"{count} public names are there", count > 100)
-    count = 0
-    for crate, owner, name in methods():
-        count += 1
-        if f"{owner}.{name}" not in pages[f"{crate}.html"][1]:
-            sys.exit(f"{crate}.html has no {owner}::{name}")
-    holds(f"{count} public methods are there", count > 100)
-    for call in re.findall(r"(?m)^\w[\w ]* \**(stlslice_\w+)\(", text_of("include/stlslice.h")):
-        holds(f"{call} of the header is there", call in pages["stlslice_c.html"][1])
+def plain(text):
+    return html.unescape(re.sub(r"<[^>]*>", "", text))
 
 
-def definitions(pages):
-    count = 0
-    for path in glob.glob(f"{ROOT}/crates/*/specs/**/*.antt", recursive=True):
-        crate, module = re.search(r"crates/(\w+)/specs/(.*)\.antt$", path).groups()
-        for name in re.findall(r"(?m)^(?:abbrev |unfoldable )?pub (?!mod )(?:record |data )?([^\s:({]+)", text_of(path)):
-            count += 1
-            if f"{module.replace('/', '.')}.{name}" not in pages[f"{crate}.specs.html"][1]:
-                sys.exit(f"{crate}.specs.html has no {module}.{name}")
-    holds(f"{count} definitions are there", count > 700)
+class Reference(Together):
+    @classmethod
+    def make_ready(cls, room):
+        room.out(sys.executable, "tools/reference.py", room.file("docs"))
+        texts = {name: text_of(room.file("docs", name)) for name in os.listdir(room.file("docs")) if name.endswith(".html")}
+        # each page by its name, with its marks
+        cls.pages = {name: (text, re.findall(r'\bid="([^"]*)"', text)) for name, text in texts.items()}
 
+    def test_links_lead_somewhere(self):
+        count = 0
+        for page, (text, marks) in self.pages.items():
+            same(sorted({it for it in marks if marks.count(it) > 1}), [], f"marks that {page} has twice")
+            for place in re.findall(r'(?:href|src)="([^"]*)"', text):
+                target, _, mark = place.partition("#")
+                assert os.path.exists(self.room.file("docs", target)), f"{page}: {place} isn't there"
+                assert not mark or mark in self.pages[target or page][1], f"{page}: {place} isn't there"
+                count += 1
+        assert count > 5000, f"only {count} links"
 
-def contracts(pages):
-    """Contracts stand whole on the pages of their crates, and lead to the definitions that they cite, however these are
-    imported: by name, by another name, by a module, as a case or as a constant."""
-    for crate, target in (("stlslice", "stlslice.specs.html#Run.IsRun"),
-                          ("stlslice", "stlslice.specs.html#WrittenPixels.IsSlicedFrom"), ("stlslice", "micro_num.html#Unit"), ("geometry", "geometry.specs.html#TieRule.is_below"),
-                          ("raster", "geometry.html#COLUMN_LIMIT"), ("layer_session", "layer_session.html#SessionFault")):
-        holds(f"the contracts of {crate} lead to {target}", f'href="{target}"' in pages[f"{crate}.html"][0])
-    shown = html.unescape(re.sub(r"<[^>]*>", "", "".join(text for text, _ in pages.values())))
-    count = 0
-    for path in glob.glob(f"{ROOT}/crates/*/src/laws.rt"):
-        for clause in re.findall(r"(?m)^    ensures .*$", text_of(path)):
-            count += 1
-            if clause.strip() not in shown:
-                sys.exit(f"{path}: {clause} isn't shown")
-    holds(f"{count} clauses of laws are shown", count > 50)
+    def test_public_names_and_methods_are_there(self):
+        names, owned = list(public_names()), list(methods())
+        for crate, name, is_own in names:
+            text, marks = self.pages[f"{crate}.html"]
+            assert name in marks if is_own else f'#{name}"' in text, f"{crate}.html has no {name}"
+        for crate, owner, name in owned:
+            assert f"{owner}.{name}" in self.pages[f"{crate}.html"][1], f"{crate}.html has no {owner}::{name}"
+        assert len(names) > 100 and len(owned) > 100, f"only {len(names)} names and {len(owned)} methods"
+        for call in re.findall(r"(?m)^\w[\w ]* \**(stlslice_\w+)\(", text_of("include/stlslice.h")):
+            assert call in self.pages["stlslice_c.html"][1], f"{call} of the header isn't there"
 
+    def test_definitions_are_there(self):
+        count = 0
+        for path in glob.glob(f"{ROOT}/crates/*/specs/**/*.antt", recursive=True):
+            crate, module = re.search(r"crates/(\w+)/specs/(.*)\.antt$", path).groups()
+            for name in re.findall(r"(?m)^(?:abbrev |unfoldable )?pub (?!mod )(?:record |data )?([^\s:({]+)", text_of(path)):
+                mark = f"{module.replace('/', '.')}.{name}"
+                assert mark in self.pages[f"{crate}.specs.html"][1], f"{crate}.specs.html has no {mark}"
+                count += 1
+        assert count > 700, f"only {count} definitions"
 
-def believed(pages):
-    for page, crate, first, inside in (
-            ("believe-run.html", "stlslice", "run", ["stlslice.Run.IsRun", "stlslice.Outcome.IsOutcome", "stl_text.Text.Reads",
-                                                     "mesh_weld.Balance.IsBalanced", "geometry.Winding.ray",
-                                                     "geometry.TieRule.is_below", "raster.Rule.is_inside", "contour.Loops.loops",
-                                                     "micro_num.Micrometres.micro", "devices.Source", "devices.Sink"]),
-            ("believe-mask.html", "stlslice_c", "stlslice_mask", ["stlslice_c.Answers.IsMaskAnswer", "raster.Image.layer_image",
-                                                                  "geometry.Winding.ray", "raster.Rule.is_inside"])):
-        text, marks = pages[page]
-        heads = re.findall(r'<h3 id="([^"]*)"', text)
-        same(f"{page} begins with", heads[0], f"{crate}.{first}")
-        for mark in inside:
-            holds(f"{page} has {mark}", mark in marks)
-        entries, told = map(int, re.search(r"There are (\d+) entries with (\d+) lines", text).groups())
-        same(f"entries of {page}", entries, len(heads))
-        outside = re.findall(r"<code>Rattle\.(\w+)", re.search(r"From outside the repository: (.*?)</p>", text)[1])
-        same(f"crates from outside that {page} names", sorted(set(outside)), ["std"])
-        shown = [re.split(r"<h3 ", it)[0] for it in text.split("<h3 ")[1:]]
-        blocks = [re.findall(r"(?s)<pre>(.*?)</pre>", it.split('What contracts see')[0])[-1] for it in shown]
-        lines = [html.unescape(re.sub(r"<[^>]*>", "", line)).strip() for block in blocks for line in block.splitlines()]
-        same(f"lines of {page}", sum(1 for line in lines if line and not line.startswith(("--", "//"))), told)
+    def test_contracts_stand_whole_and_lead_to_what_they_cite(self):
+        for crate, target in LED_TO:
+            assert f'href="{target}"' in self.pages[f"{crate}.html"][0], f"the contracts of {crate} don't lead to {target}"
+        shown, count = plain("".join(text for text, _ in self.pages.values())), 0
+        for path in glob.glob(f"{ROOT}/crates/*/src/laws.rt"):
+            for clause in re.findall(r"(?m)^    ensures .*$", text_of(path)):
+                assert clause.strip() in shown, f"{path}: {clause} isn't shown"
+                count += 1
+        assert count > 50, f"only {count} clauses of laws"
 
+    def test_what_has_to_be_believed_is_whole_and_counted(self):
+        for page, first, inside in BELIEVED:
+            text, marks = self.pages[page]
+            heads = re.findall(r'<h3 id="([^"]*)"', text)
+            same(heads[0], first, f"{page} begins with")
+            same(set(inside) - set(marks), set(), f"what {page} hasn't")
+            entries, told = map(int, re.search(r"There are (\d+) entries with (\d+) lines", text).groups())
+            same(entries, len(heads), f"entries of {page}")
+            outside = re.findall(r"<code>Rattle\.(\w+)", re.search(r"From outside the repository: (.*?)</p>", text)[1])
+            same(set(outside) - {"clap"}, {"std"}, f"crates from outside that {page} names")
+            shown = [it for it in text.split("<h3 ")[1:]]
+            blocks = [re.findall(r"(?s)<pre>(.*?)</pre>", it.split("What contracts see")[0])[-1] for it in shown]
+            lines = [plain(line).strip() for block in blocks for line in block.splitlines()]
+            same(sum(1 for line in lines if line and not line.startswith(("--", "//"))), told, f"lines of {page}")
 
-def search(room, folder):
-    if not CHROMIUM:
-        return leave_out("chromium is missing (Debian: chromium): the search box was not tried")
-    words = ["--headless", "--no-sandbox", "--disable-gpu", f"--user-data-dir={room.file('chromium')}", "--dump-dom"]
-    ran = room.run(CHROMIUM, *words, f"file://{folder}/index.html?q=is_inside")
-    found = re.search(r'<ul id="found">(.*?)</ul>', ran.stdout)
-    holds("the search box finds a definition", found and 'href="raster.specs.html#Rule.is_inside"' in found[1])
-    return None
-
-
-def main():
-    with Room() as room:
-        folder = room.file("docs")
-        ran = room.run(sys.executable, "tools/reference.py", folder)
-        same("status of the reference", (ran.returncode, ran.stderr), (0, ""))
-        pages = read(folder)
-        links(folder, pages)
-        items(pages)
-        definitions(pages)
-        contracts(pages)
-        believed(pages)
-        search(room, folder)
-    ended()
-
-
-if __name__ == "__main__":
-    main()
+    @needs("chromium")
+    def test_the_search_box_finds_a_definition(self):
+        words = ["--headless", "--no-sandbox", "--disable-gpu", f"--user-data-dir={self.room.file('chromium')}",
+                 "--dump-dom"]
+        ran = self.room.run(browser.program(), *words, f"file://{self.room.file('docs')}/index.html?q=is_inside")
+        found = re.search(r'<ul id="found">(.*?)</ul>', ran.out)
+        assert found and 'href="raster.specs.html#Rule.is_inside"' in found[1], f"found: {found and found[1]}"

@@ -1,7 +1,6 @@
-#!/usr/bin/env -S python3 -B
-"""docs/refused.md: each fault line on the page is reproduced with its status, each mending command is run on such a file
-and what it makes is the part again; each line that the program can write stands on the page. The commands that need
-Debian packages are run by test_refused_tools.py."""
+"""docs/refused.md: each fault line on the page is reproduced with its status, each mending command is run on such a file and
+what it makes is the part again; each line that the program can write stands on the page. A command whose Debian package
+isn't here is left out."""
 
 import codecs
 import glob
@@ -10,19 +9,17 @@ import math
 import os
 import random
 import re
-import shutil
 
+from common import ROOT, Case, bytes_of, example, installed, lacking, same, skip, text_of
 from pages import blocks
-from parts import ROOT, box, environment, example, installed, leave_out, main, run, same, text
+from parts import SIDES, box, text, turned_over
+from parts import binary as binary_stl
 
 PAGE = os.path.join(ROOT, "docs", "refused.md")
+BLOCKS = blocks(PAGE)
 REPORT = ["--pitch", "100", "--layer", "100", "--report"]
 TOOLS = {"admesh": "admesh", "assimp-utils": "assimp"}
-
-
-def bracket():
-    with open(example("bracket.stl"), "rb") as file:
-        return file.read()
+BRACKET = bytes_of(example("bracket.stl"))
 
 
 def cube(low=0, high=30):
@@ -30,15 +27,12 @@ def cube(low=0, high=30):
 
 
 def replaced(old, new, count=0):
-    return re.sub(old, new, bracket(), count=count)
+    return re.sub(old, new, BRACKET, count=count)
 
 
 def binary(head):
-    """The bracket as binary STL, with this header."""
-    import struct
-    numbers = [float(word) for word in re.findall(rb"vertex (\S+) (\S+) (\S+)", bracket()) for word in word]
-    facets = [struct.pack("<12fH", 0, 0, 0, *numbers[k:k + 9], 0) for k in range(0, len(numbers), 9)]
-    return head.ljust(80, b" ") + struct.pack("<I", len(facets)) + b"".join(facets)
+    corners = re.findall(rb"vertex (\S+) (\S+) (\S+)", BRACKET)
+    return binary_stl(list(zip(corners[::3], corners[1::3], corners[2::3])), head.ljust(80))
 
 
 def moved(facets, size, seed):
@@ -74,18 +68,15 @@ def cubes(facets):
     return [text(facets).encode()], text(cube()).encode()
 
 
+CORNERS = [(9 * (k & 1), 9 * (k >> 1 & 1), 9 * (k >> 2)) for k in range(8)]
+
+
 def quads():
-    corner = [(9 * (k & 1), 9 * (k >> 1 & 1), 9 * (k >> 2)) for k in range(8)]
-    sides = [(0, 2, 3, 1), (4, 5, 7, 6), (0, 1, 5, 4), (2, 6, 7, 3), (0, 4, 6, 2), (1, 3, 7, 5)]
-    facets = "".join("facet normal 0 0 0\nouter loop\n" + "".join("vertex %d %d %d\n" % corner[k] for k in side)
-                     + "endloop\nendfacet\n" for side in sides)
-    return [f"solid q\n{facets}endsolid q\n".encode()], text(cube(0, 9)).encode()
+    return [text([[CORNERS[k] for k in side] for side in SIDES], "q").encode()], text(cube(0, 9)).encode()
 
 
 def obj():
-    corner = [(9 * (k & 1), 9 * (k >> 1 & 1), 9 * (k >> 2)) for k in range(8)]
-    sides = [(0, 2, 3, 1), (4, 5, 7, 6), (0, 1, 5, 4), (2, 6, 7, 3), (0, 4, 6, 2), (1, 3, 7, 5)]
-    lines = ["v %d %d %d" % point for point in corner] + ["f %d %d %d %d" % tuple(k + 1 for k in side) for side in sides]
+    lines = ["v %d %d %d" % point for point in CORNERS] + ["f %d %d %d %d" % tuple(k + 1 for k in side) for side in SIDES]
     return ["\n".join(lines + [""]).encode()], text(cube(0, 9)).encode()
 
 
@@ -96,88 +87,75 @@ def t_junction():
 
 
 def open_support():
-    with open(example("supported.stl"), "rb") as file:
-        whole = file.read()
+    whole = bytes_of(example("supported.stl"))
     facets = re.findall(rb"  facet.*?endfacet\n", whole, flags=re.DOTALL)
     return [whole.replace(facets[299], b"", 1)], whole
 
 
 def before(word, number=0):
-    """The bracket up to one of the places where a word stands."""
-    text = bracket()
-    return text[:[found.start() for found in re.finditer(rb"\b" + word + rb"\b", text)][number]]
-
-
-def flipped(facets):
-    (a, b, c), *rest = facets
-    return [(a, c, b)] + rest
+    return BRACKET[:[found.start() for found in re.finditer(rb"\b" + word + rb"\b", BRACKET)][number]]
 
 
 def far():
     return re.sub(rb"vertex (\S+) (\S+) (\S+)",
-                  lambda found: b"vertex %.6f %.6f %s" % (float(found[1]) + 4e8, float(found[2]) + 5.8e9, found[3]), bracket())
+                  lambda found: b"vertex %.6f %.6f %s" % (float(found[1]) + 4e8, float(found[2]) + 5.8e9, found[3]), BRACKET)
 
 
 # For each heading: the bad files, one for each line under it and then others that are mended by the same command; and
 # the part that they were.
 FILES = {
-    "Byte order mark": ([codecs.BOM_UTF8 + bracket()], bracket()),
-    "UTF-16": ([bracket().decode().encode("utf-16"), codecs.BOM_UTF16_BE + bracket().decode().encode("utf-16-be")], bracket()),
-    "Compressed by gzip": ([gzip.compress(bracket(), mtime=0)], bracket()),
-    "Binary STL": ([binary(b"made by a tool")], bracket()),
-    "Binary STL whose header begins with solid": ([binary(b"solid part"), binary(b"SOLID part\nby a tool")], bracket()),
-    "Another format: OBJ, PLY, OFF, 3MF": obj(),
-    "NUL or Ctrl-Z at the end": ([bracket() + b"\0\0\0", bracket() + b"\x1a"], bracket()),
-    "Comments": ([replaced(rb"\n", rb"\n# made by a tool\n", 1), replaced(rb"\n", rb"\n ; made by a tool\n")], bracket()),
+    "Byte order mark": ([codecs.BOM_UTF8 + BRACKET], BRACKET),
+    "UTF-16": ([BRACKET.decode().encode("utf-16"), codecs.BOM_UTF16_BE + BRACKET.decode().encode("utf-16-be")], BRACKET),
+    "Compressed by gzip": ([gzip.compress(BRACKET, mtime=0)], BRACKET),
+    "Binary STL": ([binary(b"made by a tool")], BRACKET),
+    "Binary STL whose header begins with solid": ([binary(b"solid part"), binary(b"SOLID part\nby a tool")], BRACKET),
+    "Another format: OBJ, PLY, OFF, AMF, 3MF": obj(),
+    "NUL or Ctrl-Z at the end": ([BRACKET + b"\0\0\0", BRACKET + b"\x1a"], BRACKET),
+    "Comments": ([replaced(rb"\n", rb"\n# made by a tool\n", 1), replaced(rb"\n", rb"\n ; made by a tool\n")], BRACKET),
     "Keywords in two words": ([replaced(rb"end(facet|loop|solid)", rb"end \1"), replaced(rb"end(facet|solid)", rb"END \1")],
-                              bracket()),
+                              BRACKET),
     "Several solids without their ends": (
-        [re.sub(rb"endsolid.*\n", rb"", bracket() + text(cube(50, 60)).encode())], bracket() + text(cube(50, 60)).encode()),
+        [re.sub(rb"endsolid.*\n", rb"", BRACKET + text(cube(50, 60)).encode())], BRACKET + text(cube(50, 60)).encode()),
     "No normal, or one that is not three words": (
         [replaced(rb"facet normal.*", b"facet"), replaced(rb"facet normal.*", b"facet normal 0 0"),
-         replaced(rb"facet normal.*", b"facet normal 0 0 0 1")], bracket()),
-    "outer without loop": ([replaced(rb"outer loop", b"outer")], bracket()),
+         replaced(rb"facet normal.*", b"facet normal 0 0 0 1")], BRACKET),
+    "outer without loop": ([replaced(rb"outer loop", b"outer")], BRACKET),
     "Facets of four and more corners": quads(),
-    "Facets of two corners": ([text([]).replace("endsolid", text(cube(0, 9))[11:-14] + "facet normal 0 0 0\nouter loop\nvertex 0 0 0"
-                                                "\nvertex 0 9 0\nendloop\nendfacet\nendsolid").encode()],
-                              text(cube(0, 9)).encode()),
-    "A facet that is not closed": ([replaced(rb" *endfacet\n", b"")], bracket()),
+    "Facets of two corners": ([text(cube(0, 9) + [((0, 0, 0), (0, 9, 0))]).encode()], text(cube(0, 9)).encode()),
+    "A facet that is not closed": ([replaced(rb" *endfacet\n", b"")], BRACKET),
     "The file was cut": ([before(b"normal", 50), before(b"outer", 50), before(b"loop", 50), before(b"vertex", 151),
                           before(b"vertex", 151) + b"vertex 1 2", before(b"endloop", 50), before(b"endfacet", 50),
-                          text(cube()).encode()[:999], bracket()[:30000]], None),
-    "Only endsolid is missing": ([replaced(rb"endsolid.*\n", b""), replaced(rb"\nendsolid.*\n", b"")], bracket()),
+                          text(cube()).encode()[:999], BRACKET[:30000]], None),
+    "Only endsolid is missing": ([replaced(rb"endsolid.*\n", b""), replaced(rb"\nendsolid.*\n", b"")], BRACKET),
     "An empty file": ([b"", b" \n\n"], None),
-    "Decimal commas": ([bracket().replace(b".", b",")], bracket()),
-    "Exponents with D": ([bracket().replace(b"e+", b"D+").replace(b"e-", b"D-"), bracket().replace(b"e+0", b"d").replace(b"e-", b"d-")],
-                         bracket()),
-    "nan or inf as a coordinate": ([replaced(rb"(?s)(vertex.*?vertex.*?vertex.*?)vertex \S+ \S+", rb"\1vertex " + word + b" 0", 1)
-                                    for word in (b"nan", b"-INF", b"1.#QNAN")], bracket()),
-    "Numbers of more than 255 bytes": ([bracket().replace(b"2.800000e+01", b"2.800000" + b"0" * 260 + b"e+01"),
-                                        bracket().replace(b"2.800000e+01", b"27.999999" + b"9" * 260)], bracket()),
-    "Far from the origin": ([far()], bracket()),
+    "Decimal commas": ([BRACKET.replace(b".", b",")], BRACKET),
+    "Exponents with D": ([BRACKET.replace(b"e+", b"D+").replace(b"e-", b"D-"),
+                          BRACKET.replace(b"e+0", b"d").replace(b"e-", b"d-")], BRACKET),
+    "nan or inf as a coordinate": ([replaced(rb"(?s)(vertex.*?vertex.*?vertex.*?)vertex \S+ \S+",
+                                             rb"\1vertex " + word + b" 0", 1)
+                                    for word in (b"nan", b"-INF", b"1.#QNAN")], BRACKET),
+    "Numbers of more than 255 bytes": ([BRACKET.replace(b"2.800000e+01", b"2.800000" + b"0" * 260 + b"e+01"),
+                                        BRACKET.replace(b"2.800000e+01", b"27.999999" + b"9" * 260)], BRACKET),
+    "Far from the origin": ([far()], BRACKET),
     "A facet is missing": cubes(cube()[1:]),
-    "A facet is turned inside out": cubes(flipped(cube())),
+    "A facet is turned inside out": cubes(turned_over(cube()[:1]) + cube()[1:]),
     "A facet stands twice": cubes(cube() + [cube()[3]]),
     "A T-junction": cubes(t_junction()),
     "Corners that nearly meet": cubes(moved(cube(), 0.002, 1)),
     "Supports with a facet missing": open_support(),
 }
 
-STATUS = {"Status 2": 2, "Status 3": 3, "Status 4": 4, "Status 5": 5, "Status 6": 6, "Status 7": 7}
-
-
 def sections():
     """For each heading with a fault line: its status, its lines, and the block of shell that mends."""
-    found, status = {}, None
-    heads = {}
-    with open(PAGE, encoding="utf-8") as file:
-        for line in file:
-            if line.startswith("## "):
-                status = next((number for name, number in STATUS.items() if line.startswith("## " + name)), None)
-                heads[line[3:].strip()] = status
-            elif line.startswith("### "):
-                heads[line[4:].strip()] = status
-    for block in blocks(PAGE):
+    found, heads, status = {}, {}, None
+    for line in text_of(PAGE).splitlines():
+        if line.startswith("## "):
+            told = re.match(r"## Status (\d)", line)
+            status = int(told[1]) if told else None
+            heads[line[3:].strip()] = status
+        elif line.startswith("### "):
+            heads[line[4:].strip()] = status
+    for block in BLOCKS:
         if block.language == "text":
             part = found.setdefault(block.head, [heads[block.head], [], None, block.before])
             part[1] += block.body.splitlines()
@@ -186,18 +164,22 @@ def sections():
     return found
 
 
-def refused(program, bad, words=REPORT, **given):
-    status, told, fault = run([program, *words], **(given or {"input": bad}))
-    same(told, b"", "standard output")
-    return status, fault.decode()
+# The enums whose texts a run can end with; those of other faults (a book's, a device's) stay within the program.
+TOLD = {"NumFault", "StlFault", "WeldFault", "GridFault", "RunFault", "WordFault"}
 
 
-def needs(section):
-    """The packages that a heading's text says its command needs."""
-    return [package for package in TOOLS if f"Needs `{package}`" in section[3]]
+def block_of(word):
+    return next(block.body for block in BLOCKS if block.words == [word])
 
 
-def pages_sections():
+def lacking_for(section):
+    """What isn't here of what a heading's text says its command needs, or None if it needs nothing."""
+    named = [package for package in TOOLS if f"Needs `{package}`" in section[3]]
+    return lacking(*(TOOLS[it] for it in named)) if named else None
+
+
+def faulty():
+    """The headings of files that are refused, each with its section. Each has files, one for each line."""
     page = {head: section for head, section in sections().items() if section[0] in (3, 4)}
     same(set(page) - {"More than 1,048,576 facets"}, set(FILES), "headings")
     for head, (bad, good) in FILES.items():
@@ -206,251 +188,200 @@ def pages_sections():
     return page
 
 
-def files_are_refused(program, folder):
-    page = pages_sections()
-    for head, (bad, _) in FILES.items():
-        status, lines, _, _ = page[head]
+class Refused(Case):
+    def refused(self, bad=None, words=REPORT, **how):
+        """Status and line of a run that prints nothing."""
+        ran = self.room.run("stlslice", *words, **({"input": bad} if bad is not None else how))
+        same(ran.out, "", "standard output")
+        return ran.status, ran.fault
+
+    def mended(self, head, mend):
+        bad, good = FILES[head]
+        words = [*REPORT, "--rule", "positive"]
+        wanted = self.room.out("stlslice", *words, input=good)
         for number, data in enumerate(bad):
-            found = refused(program, data)
-            same(found[0], status, f"{head}: status of file {number}")
-            if number < len(lines):
-                same(found[1], lines[number] + "\n", head)
+            folder = re.sub(r"\W", "_", head) + str(number)
+            os.mkdir(self.room.file(folder))
+            self.room.put(f"{folder}/part.stl", data)
+            ran = self.room.bash(mend, cwd=self.room.file(folder))
+            same(ran.status, 0, f"{head}: the command's status ({ran.fault})")
+            told = self.room.out("stlslice", *words, path=self.room.file(folder, "mended.stl"))
+            same(told.splitlines()[-1], wanted.splitlines()[-1], f"{head}, file {number}: the mended part")
+            if head != "Corners that nearly meet":
+                same(told, wanted, f"{head}, file {number}: layers of the mended part")
 
+    def test_files_are_refused(self):
+        page = faulty()
+        for head, (bad, _) in FILES.items():
+            status, lines, _, _ = page[head]
+            for number, data in enumerate(bad):
+                found = self.refused(data)
+                same(found[0], status, f"{head}: status of file {number}")
+                if number < len(lines):
+                    same(found[1], lines[number] + "\n", head)
 
-def mended(program, folder, head, mend):
-    """Runs the heading's command on each of its files, and compares what it makes with the part."""
-    env = environment(program, folder)
-    bad, good = FILES[head]
-    words = REPORT + ["--rule", "positive"]
-    wanted = run([program, *words], input=good)
-    same(wanted[0], 0, f"{head}: the part that it was")
-    for number, data in enumerate(bad):
-        here = os.path.join(folder, re.sub(r"\W", "_", head) + str(number))
-        os.mkdir(here)
-        with open(os.path.join(here, "part.stl"), "wb") as file:
-            file.write(data)
-        status, _, fault = run(["bash", "-c", mend], cwd=here, env=env)
-        same(status, 0, f"{head}: the command's status ({fault.decode()})")
-        with open(os.path.join(here, "mended.stl"), "rb") as file:
-            told = run([program, *words], stdin=file)
-        same(told[0], 0, f"{head}, file {number}: mended, and refused again: {told[2].decode()}")
-        same(told[1].splitlines()[-1], wanted[1].splitlines()[-1], f"{head}, file {number}: the mended part")
-        if head != "Corners that nearly meet":
-            same(told[1], wanted[1], f"{head}, file {number}: layers of the mended part")
+    def test_files_are_mended(self):
+        plain = {head: section for head, section in faulty().items() if section[2] and lacking_for(section) is None}
+        assert len(plain) >= 15, f"only {len(plain)} commands need no package"
+        for head, section in plain.items():
+            self.mended(head, section[2])
 
+    def test_files_are_mended_by_tools(self):
+        found = {head: section for head, section in faulty().items() if section[2] and lacking_for(section) is not None}
+        assert len(found) >= 8, f"only {len(found)} commands need a package"
+        for head, section in found.items():
+            if lacking_for(section):
+                self.leave_out(f"{head}: {lacking_for(section)}")
+            else:
+                self.mended(head, section[2])
 
-def files_are_mended(program, folder):
-    plain = {head: section for head, section in pages_sections().items() if section[2] and not needs(section)}
-    assert len(plain) >= 15, f"only {len(plain)} commands need no package"
-    for head, section in plain.items():
-        mended(program, folder, head, section[2])
+    def test_too_many_facets_are_refused(self):
+        status, lines, _, _ = sections()["More than 1,048,576 facets"]
+        facet = b"facet normal 0 0 0 outer loop vertex 0 0 0 vertex 0 0 0 vertex 0 0 0 endloop endfacet\n"
+        front = b"solid\n" + facet * 1_048_576
+        found = self.refused(front + facet, ["--box"])
+        same(found, (status, f"stlslice: too many facets at byte {len(front)}\n"), "too many facets")
+        same(lines, [found[1].strip()], "the page's line")
 
+    def test_two_shells_are_joined(self):
+        """By the page's command for several shells, on a part of two that overlap: 27 + 27 - 1 cubic centimetres."""
+        self.room.put("part.stl", text(cube() + cube(20, 50)))
+        env = self.room.with_env(PATH=f"{installed()}:{self.room.environment['PATH']}")
+        ran = self.room.bash(block_of("shells"), cwd=self.room.path, env=env)
+        same(ran, (0, "out.sl1: 50.000 x 50.000 x 50.000 mm, 53.000 ml, 1000 layers\n", ""), "two shells")
 
-def files_are_mended_by_tools(program, folder):
-    found = {head: section for head, section in pages_sections().items() if section[2] and needs(section)}
-    assert len(found) >= 8, f"only {len(found)} commands need a package"
-    for head, section in found.items():
-        missing = [package for package in needs(section) if not shutil.which(TOOLS[package])]
-        if missing:
-            leave_out(head, missing)
-        else:
-            mended(program, folder, head, section[2])
+    def test_a_mesh_is_made_coarser(self):
+        """By the page's command, on a ball and by a smaller number: it stays closed, and its volume nearly the same."""
+        room = self.room
+        if room.run("/usr/bin/python3", "-c", "import open3d").status:
+            skip("open3d is missing (Debian: python3-open3d)")
+        same(block_of("coarser").count("(1000000)"), 1, "the number of the page")
+        room.put("part.stl", written(ball(15, 5)))
+        ran = room.bash(block_of("coarser").replace("(1000000)", "(4000)"), cwd=room.path)
+        same(ran.status, 0, f"status ({ran.fault})")
+        same(len(room.get("mended.stl")), 84 + 50 * 4000, "bytes of 4,000 facets")
+        volumes = []
+        for name in ("part.stl", "mended.stl"):
+            words = ["--printer", "SL1S", "--layer", "500", room.file(name), room.file(name + ".sl1")]
+            ran = room.run(installed("stlslice-sl1"), *words)
+            same(ran.status, 0, f"status of {name} ({ran.fault})")
+            volumes.append(float(re.search(r", ([\d.]+) ml,", ran.out)[1]))
+        assert abs(volumes[0] - volumes[1]) < 0.01 * volumes[0], f"volumes {volumes}"
 
+    def test_faults_of_grid_memory_and_devices(self):
+        page, part = sections(), self.room.put("part.stl", BRACKET)
+        small, coarse = text([((0, 0, 0), (0, 0, 0), (0, 0, 1))]), ["--pitch", "100", "--layer", "100"]
+        runs = {
+            "All facets are degenerate": lambda: self.refused(small),
+            "The grid is too large": lambda: self.refused(BRACKET, ["--pitch", "1", "--layer", "1"]),
+            "The grid has no cells": lambda: self.refused(BRACKET, REPORT + ["--grid", "0,1,1,0,0,0"]),
+            "The grid reaches too far":
+                lambda: self.refused(BRACKET, ["--pitch", "100000", "--layer", "1", "--grid", "2000,1,1,0,0,0"]),
+            "The voxel is outside the grid": lambda: self.refused(BRACKET, [*coarse, "--probe", "320,0,0"]),
+            "Status 6: out of memory":
+                lambda: self.ended("ulimit -v 20000; exec stlslice --pitch 10 --layer 10 --report", path=part),
+            "The input cannot be read": lambda: self.ended("stlslice --box < /"),
+            "The output cannot be written": lambda: self.ended("stlslice --pitch 100 --layer 100 > /dev/full", path=part),
+            "The help cannot be written": lambda: self.ended("stlslice --help > /dev/full"),
+            "The version cannot be written": lambda: self.ended("stlslice --version > /dev/full"),
+        }
+        same({head for head, section in page.items() if section[0] in (5, 6, 7)}, set(runs), "headings")
+        for head, made in runs.items():
+            status, fault = made()
+            same((status, fault.splitlines()), (page[head][0], page[head][1]), head)
 
-def too_many_facets(program, folder):
-    status, lines, _, _ = sections()["More than 1,048,576 facets"]
-    facet = b"facet normal 0 0 0 outer loop vertex 0 0 0 vertex 0 0 0 vertex 0 0 0 endloop endfacet\n"
-    with open(os.path.join(folder, "many.stl"), "wb") as file:
-        file.write(b"solid\n")
-        for _ in range(1024):
-            file.write(facet * 1024)
-        at = file.tell()
-        file.write(facet)
-    with open(os.path.join(folder, "many.stl"), "rb") as file:
-        found = refused(program, None, ["--box"], stdin=file)
-    same(found, (status, f"stlslice: too many facets at byte {at}\n"), "too many facets")
-    same(lines, [found[1].strip()], "the page's line")
+    def ended(self, script, **how):
+        ran = self.room.bash(script, **how)
+        return ran.status, ran.fault
 
+    def test_faults_of_words(self):
+        lines = re.findall(r"(?m)^\| `([^`]+)` \|", text_of(PAGE).split("## Status 2")[1])
+        words = [[], ["--pitch", "50"], ["--rule", "EvenOdd"], ["--unit", "cm"], ["--grid=1,1,1,0,0"], ["--probe", "0,0"],
+                 ["--png", "--depth", "2"], ["--depth", "8"], [b"\xff"],
+                 ["--pitch", "0.05", "--layer", "50"], ["--pitch", "0", "--layer", "50"], ["--grid", "-1,1,1,0,0,0"],
+                 ["part.stl"], ["--pitch", "50", "--pitch", "50"], ["--pitch"]]
+        same(len(lines), len(words), "lines of words")
+        for line, given in zip(lines, words):
+            status, fault = self.refused("", given)
+            same((status, fault.splitlines()[0]), (2, line), str(given))
+            is_number = line.startswith("error: invalid value")
+            same("whole micrometres, as in --pitch 50 for 0.05 mm" in fault.splitlines()[-1], is_number,
+                 f"last line by {given}")
 
-def shells_are_joined(program, folder):
-    """The page's command for several shells, on a part of two that overlap."""
-    block = next(block for block in blocks(PAGE) if block.words == ["shells"])
-    env = environment(program, folder)
-    with open(os.path.join(folder, "part.stl"), "w") as file:
-        file.write(text(cube() + cube(20, 50)))
-    found = run(["bash", "-c", block.body], cwd=folder, env={**env, "PATH": f"{installed()}:{env['PATH']}"})
-    # 27 + 27 - 1 cubic centimetres
-    same(found, (0, b"out.sl1: 50.000 x 50.000 x 50.000 mm, 53.000 ml, 1000 layers\n", b""), "two shells")
+    def test_each_line_of_the_program_is_on_the_page(self):
+        """The texts of faults in the sources, and the lines of `main`."""
+        page, templates, words = text_of(PAGE), set(), set()
+        for path in glob.glob(f"{ROOT}/crates/*/src/**/*.rt", recursive=True):
+            if "/tests/" in path:
+                continue
+            source = text_of(path)
+            for name, body in re.findall(r"(?s)impl Display for (\w+) \{(.*?)\n\}", source):
+                if name in TOLD:
+                    templates |= set(re.findall(r'"([^"]+)"', body))
+            templates |= set(re.findall(r'&"(stlslice: [^"]+)"', source))
+            words |= set(re.findall(r'Word::\w+ => "([^"]+)"', source))
+        assert len(templates) >= 24 and len(words) == 9, f"the texts of faults aren't found: {templates}, {words}"
+        for template in templates:
+            if re.fullmatch(r"(stlslice: )?\{\w+\}", template) or "{option}" in template:
+                continue
+            pattern = re.sub(r"\\\{.*?\\\}", "[^`\n]+", re.escape(template))
+            assert re.search(pattern, page), f"not on the page: {template}"
+        for word in words:
+            assert word == "number" or f"expected {word} at byte" in page, f"not on the page: expected {word}"
+            assert f"input ended before {word}\n" in page, f"not on the page: ended before {word}"
 
+    def test_a_place_is_found(self):
+        """From a byte to its line, and from an open edge to a marker."""
+        room = self.room
+        os.symlink(os.path.join(ROOT, "examples"), room.file("examples"))
+        room.put("mended.stl", BRACKET)
+        ran = room.bash(block_of("look"), cwd=room.path)
+        same(ran, (0, "facets 236 box -3964 0 0 28000 12000 27000\ntotal 3077280\n", ""), "a look at the mended part")
+        lines = BRACKET.splitlines(keepends=True)
+        lines[451] = b"      vertx 1 2 3\n"
+        room.put("part.stl", b"".join(lines))
+        at = re.fullmatch(r"stlslice: expected vertex at byte (\d+)\n", self.refused(b"".join(lines))[1])[1]
+        same(block_of("line")[:9], "AT=16063\n", "the byte of the page")
+        ran = room.bash(block_of("line").replace("16063", at), cwd=room.path)
+        same(ran, (0, "452\nvertx 1 2 3\n", ""), "the line of a byte")
+        for facets in (cube()[1:], cube(-3, 5)[1:], cube(0, 9)[:5] + cube(0, 9)[6:]):
+            self.marker_holds(room.put("part.stl", text(facets)))
+        line = "%s: no open edge in: stlslice: read failed"
+        room.refused(1, line, example("mark_edge.py"), input="stlslice: read failed\n")
 
-def mesh_is_made_coarser(program, folder):
-    """The page's command for a coarser mesh, on a ball and by a smaller number: it stays closed, and its volume nearly the same."""
-    if run(["/usr/bin/python3", "-c", "import open3d"])[0]:
-        return leave_out("A coarser mesh", ["python3-open3d"])
-    block = next(block for block in blocks(PAGE) if block.words == ["coarser"])
-    assert block.body.count("(1000000)") == 1
-    facets = ball(15, 5)
-    with open(os.path.join(folder, "part.stl"), "wb") as file:
-        file.write(written(facets))
-    env = environment(program, folder)
-    status, _, fault = run(["bash", "-c", block.body.replace("(1000000)", "(4000)")], cwd=folder, env=env)
-    same(status, 0, f"status ({fault.decode()})")
-    same(os.path.getsize(os.path.join(folder, "mended.stl")), 84 + 50 * 4000, "bytes of 4,000 facets")
-    volumes = []
-    for name in ("part.stl", "mended.stl"):
-        out = os.path.join(folder, name + ".sl1")
-        status, told, fault = run([installed("stlslice-sl1"), "--printer", "SL1S", "--layer", "500", os.path.join(folder, name), out])
-        same(status, 0, f"status of {name} ({fault.decode()})")
-        volumes.append(float(re.search(rb", ([\d.]+) ml,", told)[1]))
-    assert abs(volumes[0] - volumes[1]) < 0.01 * volumes[0], f"volumes {volumes}"
-
-
-def other_faults(program, folder):
-    """The faults of grid, memory and devices: the run that ends so is made here."""
-    page = sections()
-    small = text([((0, 0, 0), (0, 0, 0), (0, 0, 1))]).encode()
-    quoted = "'" + program.replace("'", "'\\''") + "'"
-    with open(os.path.join(folder, "part.stl"), "wb") as file:
-        file.write(bracket())
-    runs = {
-        "All facets are degenerate": lambda: refused(program, small),
-        "The grid is too large": lambda: refused(program, bracket(), ["--pitch", "1", "--layer", "1"]),
-        "The grid has no cells": lambda: refused(program, bracket(), REPORT + ["--grid", "0,1,1,0,0,0"]),
-        "The grid reaches too far": lambda: refused(program, bracket(), ["--pitch", "100000", "--layer", "1", "--grid", "2000,1,1,0,0,0"]),
-        "The voxel is outside the grid": lambda: refused(program, bracket(), REPORT[:4] + ["--probe", "320,0,0"]),
-        "Status 6: out of memory": lambda: run(
-            ["bash", "-c", f"ulimit -v 20000; exec {quoted} --pitch 10 --layer 10 --report < part.stl"], cwd=folder),
-        "The input cannot be read": lambda: run(["bash", "-c", f"{quoted} --box < /"]),
-        "The output cannot be written": lambda: run(["bash", "-c", f"{quoted} --pitch 100 --layer 100 < part.stl > /dev/full"], cwd=folder),
-        "The help cannot be written": lambda: run(["bash", "-c", f"{quoted} --help > /dev/full"]),
-        "The version cannot be written": lambda: run(["bash", "-c", f"{quoted} --version > /dev/full"]),
-    }
-    same({head for head, section in page.items() if section[0] in (5, 6, 7)}, set(runs), "headings")
-    for head, made in runs.items():
-        found = made()
-        fault = found[-1] if isinstance(found[-1], str) else found[-1].decode()
-        same((found[0], fault.splitlines()), (page[head][0], page[head][1]), head)
-
-
-def faults_of_words(program, folder):
-    """Each line of the table of words, by words that end so."""
-    with open(PAGE, encoding="utf-8") as file:
-        table = file.read().split("## Status 2")[1]
-    lines = re.findall(r"^\| `([^`]+)` \|", table, flags=re.MULTILINE)
-    words = [[], ["--pitch", "50"], ["--rule", "EvenOdd"], ["--unit", "cm"], ["--grid=1,1,1,0,0"], ["--probe", "0,0"],
-             ["--png", "--depth", "2"], ["--depth", "8"], [b"\xff"],
-             ["--pitch", "0.05", "--layer", "50"], ["--pitch", "0", "--layer", "50"], ["--grid", "-1,1,1,0,0,0"], ["part.stl"],
-             ["--pitch", "50", "--pitch", "50"], ["--pitch"]]
-    same(len(lines), len(words), "lines of words")
-    for line, given in zip(lines, words):
-        status, fault = refused(program, b"", given)
-        same((status, fault.splitlines()[0]), (2, line), str(given))
-        is_number = line.startswith("error: invalid value")
-        same("whole micrometres, as in --pitch 50 for 0.05 mm" in fault.splitlines()[-1], is_number, f"last line by {given}")
-
-
-# The enums whose texts a run can end with; those of other faults (a book's, a device's) stay within the program.
-TOLD = {"NumFault", "StlFault", "WeldFault", "GridFault", "RunFault", "WordFault"}
-
-
-def each_line_of_the_program_is_there(program, folder):
-    """The texts of faults in the sources, and the lines of `main`, stand on the page."""
-    sources = glob.glob(os.path.join(ROOT, "crates", "*", "src", "**", "*.rt"), recursive=True)
-    if not sources:
-        return leave_out("the texts of faults", ["crates/"])
-    with open(PAGE, encoding="utf-8") as file:
-        page = file.read()
-    templates, words = set(), set()
-    for path in sources:
-        if f"{os.sep}tests{os.sep}" in path:
-            continue
-        with open(path, encoding="utf-8") as file:
-            source = file.read()
-        for name, body in re.findall(r"pub enum (\w+) \{(.*?)\n\}", source, flags=re.DOTALL):
-            if name in TOLD:
-                templates |= set(re.findall(r'#\[error\("([^"]+)"', body))
-        templates |= set(re.findall(r'&"(stlslice: [^"]+)"', source))
-        words |= set(re.findall(r'Word::\w+ => "([^"]+)"', source))
-    assert len(templates) >= 24 and len(words) == 9, f"the texts of faults aren't found: {templates}, {words}"
-    for template in templates:
-        if re.fullmatch(r"(stlslice: )?\{0\}", template) or "{option}" in template:
-            continue
-        pattern = re.sub(r"\\\{.*?\\\}", "[^`\n]+", re.escape(template))
-        assert re.search(pattern, page), f"not on the page: {template}"
-    for word in words - {"number"}:
-        assert f"expected {word} at byte" in page, f"not on the page: expected {word}"
-    for word in words:
-        assert f"input ended before {word}\n" in page, f"not on the page: ended before {word}"
-
-
-def place_is_found(program, folder):
-    """From a byte to its line, and from an open edge to a marker."""
-    env = environment(program, folder)
-    os.symlink(os.path.join(ROOT, "examples"), os.path.join(folder, "examples"))
-    look, line, marker = [next(block.body for block in blocks(PAGE) if block.words == [word])
-                          for word in ("look", "line", "marker")]
-    shutil.copy(example("bracket.stl"), os.path.join(folder, "mended.stl"))
-    found = run(["bash", "-c", look], cwd=folder, env=env)
-    same(found, (0, b"facets 236 box -3964 0 0 28000 12000 27000\ntotal 3077280\n", b""), "a look at the mended part")
-    lines = bracket().splitlines(keepends=True)
-    lines[451] = b"      vertx 1 2 3\n"
-    with open(os.path.join(folder, "part.stl"), "wb") as file:
-        file.write(b"".join(lines))
-    status, fault = refused(program, b"".join(lines))
-    at = int(re.fullmatch(r"stlslice: expected vertex at byte (\d+)\n", fault)[1])
-    assert line.startswith("AT=16063\n")
-    found = run(["bash", "-c", line.replace("16063", str(at))], cwd=folder, env=env)
-    same(found, (0, b"452\nvertx 1 2 3\n", b""), "the line of a byte")
-    for facets in (cube()[1:], cube(-3, 5)[1:], cube(0, 9)[:5] + cube(0, 9)[6:]):
-        with open(os.path.join(folder, "part.stl"), "w") as file:
-            file.write(text(facets))
-        same(run(["bash", "-c", marker], cwd=folder, env=env), (0, b"", b""), "marker")
-        with open(os.path.join(folder, "part.stl"), "rb") as file:
-            edge = [int(n) for n in re.findall(r"-?\d+", refused(program, None, stdin=file)[1])][:6]
-        with open(os.path.join(folder, "marker.stl"), "rb") as file:
-            low_high = [int(n) for n in run([program, "--box"], stdin=file)[1].split()[3:]]
+    def marker_holds(self, part):
+        """The page's marker is a closed body, not too large, with the open edge in its box."""
+        same(self.room.bash(block_of("marker"), cwd=self.room.path), (0, "", ""), "marker")
+        edge = [int(n) for n in re.findall(r"-?\d+", self.refused(path=part)[1])][:6]
+        marker = self.room.file("marker.stl")
+        ends = [int(n) for n in self.room.run("stlslice", "--box", path=marker).out.split()[3:]]
         for k in range(3):
             low, high = sorted((edge[k], edge[k + 3]))
-            same((low_high[k] <= low, low_high[k + 3] >= high), (True, True), "the marker's box")
-            assert low - low_high[k] <= 2000 and low_high[k + 3] - high <= 2000, "the marker is too large"
-        with open(os.path.join(folder, "marker.stl"), "rb") as file:
-            status, told, _ = run([program, *REPORT, "--rule", "positive"], stdin=file)
-        assert status == 0 and int(told.split()[-1]) > 0, "the marker isn't a closed body"
-    status, told, fault = run([example("mark_edge.py")], input=b"stlslice: read failed\n")
-    same((status, told, fault), (1, b"", b"mark_edge.py: no open edge in: stlslice: read failed\n"), "no edge")
+            same((ends[k] <= low, ends[k + 3] >= high), (True, True), "the marker's box")
+            assert low - ends[k] <= 2000 and ends[k + 3] - high <= 2000, "the marker is too large"
+        ran = self.room.run("stlslice", *REPORT, "--rule", "positive", path=marker)
+        assert ran.status == 0 and int(ran.out.split()[-1]) > 0, "the marker isn't a closed body"
 
-
-def repairs_destroy_as_told(program, folder):
-    """The table of repairs, with admesh 0.98.4."""
-    if not shutil.which("admesh") or b"0.98.4" not in run(["admesh", "--version"])[1]:
-        leave_out("Repairs that destroy parts", ["admesh 0.98.4"])
-        return
-    with open(PAGE, encoding="utf-8") as file:
-        table = file.read().split("## Repairs that destroy parts")[1].split("\n## ")[0]
-    rows = re.findall(r"^\| ([^|]+) \| `(admesh[^`]*)`([^|]*) \| ([\d,]+) to ([\d,]+) \|", table, flags=re.MULTILINE)
-    draw = moved(ball(15, 4), 0.01, 7)
-    files = [(written(ball(15, 4)), text(draw).encode())] * 4
-    cut = text(cube()).encode()
-    files += [(cut, cut[:len(cut) // 2]), (bracket(), bracket()[:len(bracket()) * 3 // 4]), (bracket(), bracket()[:len(bracket()) // 2])]
-    same(len(rows), len(files), "rows")
-    for (part, repair, _, whole, made), (good, bad) in zip(rows, files):
-        same(run([program, *REPORT], input=good)[1].split()[-1].decode(), whole.replace(",", ""), f"{part}: before")
-        assert refused(program, bad)[0] in (3, 4), f"{part}: not refused"
-        with open(os.path.join(folder, "part.stl"), "wb") as file:
-            file.write(bad)
-        same(run([*repair.split(), "--write-ascii-stl=mended.stl", "part.stl"], cwd=folder)[0], 0, f"{part}: status of {repair}")
-        with open(os.path.join(folder, "mended.stl"), "rb") as file:
-            status, told, fault = run([program, *REPORT], stdin=file)
-        same((status, fault), (0, b""), f"{part}: after {repair}")
-        same(told.split()[-1].decode(), made.replace(",", ""), f"{part}: after {repair}")
-    for more in ("--exact", "--nearby --tolerance=0.01"):
-        with open(os.path.join(folder, "part.stl"), "w") as file:
-            file.write(text(draw))
-        run(["admesh", *more.split(), "--write-ascii-stl=mended.stl", "part.stl"], cwd=folder)
-        with open(os.path.join(folder, "mended.stl"), "rb") as file:
-            same(refused(program, None, stdin=file)[0], 4, f"status after admesh {more}")
-
-
-if __name__ == "__main__":
-    main([files_are_refused, files_are_mended, too_many_facets, shells_are_joined, other_faults, faults_of_words,
-          each_line_of_the_program_is_there, place_is_found])
+    def test_repairs_destroy_as_told(self):
+        room = self.room
+        if lacking("admesh") or "0.98.4" not in room.run("admesh", "--version").out:
+            skip("admesh 0.98.4 is missing (Debian: admesh)")
+        table = text_of(PAGE).split("## Repairs that destroy parts")[1].split("\n## ")[0]
+        rows = re.findall(r"(?m)^\| ([^|]+) \| `(admesh[^`]*)`([^|]*) \| ([\d,]+) to ([\d,]+) \|", table)
+        shaken, cut = text(moved(ball(15, 4), 0.01, 7)).encode(), text(cube()).encode()
+        files = [(written(ball(15, 4)), shaken)] * 4 + [(cut, cut[:len(cut) // 2])]
+        files += [(BRACKET, BRACKET[:len(BRACKET) * 3 // 4]), (BRACKET, BRACKET[:len(BRACKET) // 2])]
+        same(len(rows), len(files), "rows")
+        for (part, repair, _, whole, made), (good, bad) in zip(rows, files):
+            total = room.run("stlslice", *REPORT, input=good).out.split()[-1]
+            same(total, whole.replace(",", ""), f"{part}: before")
+            assert self.refused(bad)[0] in (3, 4), f"{part}: not refused"
+            room.put("part.stl", bad)
+            ran = room.run(*repair.split(), "--write-ascii-stl=mended.stl", "part.stl", cwd=room.path)
+            same(ran.status, 0, f"{part}: status of {repair}")
+            total = room.out("stlslice", *REPORT, path=room.file("mended.stl")).split()[-1]
+            same(total, made.replace(",", ""), f"{part}: after {repair}")
+        for more in ("--exact", "--nearby --tolerance=0.01"):
+            room.put("part.stl", shaken)
+            room.run("admesh", *more.split(), "--write-ascii-stl=mended.stl", "part.stl", cwd=room.path)
+            same(self.refused(path=room.file("mended.stl"))[0], 4, f"status after admesh {more}")

@@ -1,6 +1,5 @@
-#!/usr/bin/env -S python3 -B
-"""stlslice-slabs, as installed, and examples/slabs.sbatch: the slabs' images, joined, are those of the whole, and a slab that fails
-leaves nothing. What needs GNU parallel and an ssh server is in test_slabs_tools.py."""
+"""stlslice-slabs, as installed, and examples/slabs.sbatch: the slabs' images, joined, are those of the whole, and a slab
+that fails leaves nothing. With GNU parallel, on this machine and over ssh to a server of the test's own."""
 
 import glob
 import os
@@ -9,403 +8,378 @@ import signal
 import socket
 import subprocess
 import time
+import unittest
 
-from parts import ROOT, alone, batch_system, box, environment, example, installed, main, run, same, text
+from as_installed import SLABS, slicer
+from common import PROGRAM, ROOT, Case, add_batch_system, alone, bytes_of, example, has_ended, needs, same, skip, waited
+from parts import box, text
 
-SLABS = installed("stlslice-slabs")
 BATCH = example("slabs.sbatch")
+BRACKET = example("bracket.stl")
+COARSE = ["--pitch", "200", "--layer", "300"]
+SHORT = ["-p", "200", "-l", "300"]
+OPEN = text(box((0, 0, 0), (1, 1, 1))[1:])
+OPEN_LINE = "stlslice: open edge 0 0 0 to 0 1000 0 there 0 back 1"
 
 
-def whole(program, part, words=("--pitch", "200", "--layer", "300")):
-    with open(part, "rb") as file:
-        status, told, _ = run([program, *words], stdin=file)
-    same(status, 0, "status of the whole")
-    return told
+class Slabs(Case):
+    def whole(self, part=BRACKET, words=COARSE):
+        return self.room.out("stlslice", *words, path=part, text=False)
+
+    def lines(self, *words):
+        return self.room.out(SLABS, *words).splitlines()
+
+    def slicer(self, body):
+        return slicer(self.room, body, box="1000 1000 900")
 
 
-def content(path):
-    with open(path, "rb") as file:
-        return file.read()
+class Words(Slabs):
+    def test_words_are_slabs_of_the_whole(self):
+        """Slabs of 1, 7, 30, 90 and 200 layers of a part of 90; and a part of whose layers and columns none is whole."""
+        odd = self.room.put("odd part.stl", text(box(("-0.101", "-3", "-7.0003"), ("5.3", "0.0996", "1.1111"))))
+        for per, slabs, part in ((1, 90, BRACKET), (7, 13, BRACKET), (30, 3, BRACKET), (90, 1, BRACKET), (200, 1, BRACKET),
+                                 (10, 3, odd)):
+            lines = self.lines(*SHORT, "-n", str(per), "--words", part)
+            same(len(lines), slabs, f"slabs of {per} layers")
+            assert b"".join(self.whole(part, line.split()) for line in lines) == self.whole(part), "bytes differ"
+
+    def test_words_are_pngs_of_the_whole(self):
+        for pngs in (["--png"], ["--png", "--depth", "1", "--mirror-x", "--mirror-y"]):
+            lines = self.lines(*SHORT, *pngs, "-n", "30", "--words", BRACKET)
+            same(len(lines), 3, "slabs of 30 layers")
+            wanted = self.whole(words=[*COARSE, *pngs])
+            assert b"".join(self.whole(words=line.split()) for line in lines) == wanted, "bytes differ"
+
+    def test_a_pipe_gives_words_alone(self):
+        """A part that can be read once is no part of slabs, which each read it."""
+        pipe = self.room.file("pipe")
+        os.mkfifo(pipe)
+        self.room.refused(1, f"%s: {pipe} is no plain file, and each slab reads the part anew", SLABS, pipe, "x")
+        found = self.room.bash('"$1" --words <(cat "$2")', SLABS, BRACKET)
+        same(found, self.room.run(SLABS, "--words", BRACKET), "words of a pipe")
+
+    def test_wrong_words_are_refused(self):
+        room = self.room
+        for option in ("-p", "-l", "-n", "-r", "-u", "-j", "-S", "-P", "--depth"):
+            room.refused(2, f"%s: {option} takes a value", SLABS, option)
+        number, rules = "takes a whole number, 1 to 999999", "-r takes evenodd, nonzero or positive"
+        with_png = "--depth, --mirror-x and --mirror-y go with --png"
+        # in front of a part and an output
+        options = {"-p 0": f"-p {number}", "-l 1000000": f"-l {number}", "-n ": f"-n {number}",
+                   "-x": "there is no option -x",
+                   "-r odd": rules, "-r nonzero;touch\tx": rules, "-u foot": "-u takes mm or inch",
+                   "-S :;touch\tx": "-S takes machines, as host1,host2,:", "--png --depth 2": "--depth takes 8 or 1",
+                   "--mirror-x": with_png, "--depth 8": with_png}
+        for words, status, line in (*(([*words.split(" "), BRACKET, "x"], 2, line) for words, line in options.items()),
+                                    (["-r", "odd", "--words", BRACKET], 2, rules), (["-", "x"], 2, "there is no option -"),
+                                    ([BRACKET], 2, "it takes part.stl and layers.pbm, or --words and part.stl"),
+                                    ([BRACKET, ""], 2, "the output has no name"),
+                                    ([room.path, "x"], 1, f"{room.path} can't be read"),
+                                    (["none.stl", "x"], 1, "none.stl can't be read"),
+                                    (["no\n.stl", "x"], 1, "no\\x0a.stl can't be read")):
+            room.refused(status, f"%s: {line}", SLABS, *words, cwd=room.path)
+            for place in ("2>&-", "2> /dev/full"):
+                room.refused(status, "", SLABS, *words, cwd=room.path, script=f'exec "$@" {place}')
+
+    def test_parts_that_are_no_stl_are_refused(self):
+        room = self.room
+        empty = room.put("empty.stl", "solid\nendsolid\n")
+        room.refused(1, "%s: the part has no facets", SLABS, empty, "x")
+        room.refused(3, "stlslice: expected solid at byte 0", SLABS, os.path.join(ROOT, "README.md"), "x")
+        binary = b"solid".ljust(80) + (2).to_bytes(4, "little") + bytes(100)
+        line = "%s: the part is binary STL, and text is taken; convert it: assimp export {1} {0}"
+        room.put("a b.stl", binary)
+        for words in (["a b.stl", "x"], ["--words", "a b.stl"]):
+            room.refused(3, line.format("text.stl", "a\\ b.stl"), SLABS, *words, cwd=room.path)
+        # the command of a refusal makes a file that isn't there yet, of whatever name the part is
+        for name, free in (("text.stl", "text-2.stl"), ("text-2.stl", "text-3.stl")):
+            room.put(name, binary)
+            room.refused(3, line.format(free, name), SLABS, name, "x", cwd=room.path)
+
+    def test_the_part_is_not_overwritten(self):
+        part, link = self.room.put("part.stl", bytes_of(BRACKET)), self.room.file("link.stl")
+        os.link(part, link)
+        for out in (part, link):
+            self.room.refused(1, f"%s: {out} is the part itself", SLABS, part, out)
+        assert self.room.get("part.stl") == bytes_of(BRACKET), "the part has changed"
+
+    def few_tools(self, *others):
+        """An environment whose PATH has only what the command takes before GNU parallel, and stand-ins for other tools."""
+        os.makedirs(self.room.file("few"))
+        for tool in ("cat", "dirname", "od", "realpath", "wc"):
+            os.symlink(shutil.which(tool), self.room.file("few", tool))
+        for tool in others:
+            os.symlink(shutil.which("true"), self.room.file("few", tool))
+        return {"PATH": self.room.file("few")}
+
+    def test_missing_tools_are_told(self):
+        env, path, here = self.few_tools(), alone("stlslice-slabs", self.room), self.room.path
+        for words, line in (([], "stlslice is neither beside this command nor on PATH; -P says where it is"),
+                            (["-S", ":"], "stlslice is not on PATH; -P says where it is, here and there"),
+                            (["-P", "none"], "no program at none"), (["-P", here], f"no program at {here}"),
+                            (["-S", ":", "-P", "none/at/all"], "no program at none/at/all"),
+                            (["-P", PROGRAM], "GNU parallel is missing (Debian: apt-get install parallel)")):
+            line = f"stlslice-slabs: {line}"
+            self.room.refused(1, line, shutil.which("bash"), path, *words, BRACKET, "x", cwd=here, env=env)
+
+    def test_outputs_are_plain_files(self):
+        """GNU parallel, which isn't run, has a stand-in."""
+        env, (pipe, link, none) = self.few_tools("parallel"), map(self.room.file, ("pipe", "link", "none"))
+        os.mkfifo(pipe)
+        os.symlink("elsewhere", link)
+        for out, line in ((pipe, "is no plain file"), (link, "is no plain file"), (self.room.path, "is no plain file"),
+                          (os.path.join(none, "out"), f"can't be written: no file can be made in {none}"),
+                          (os.path.join(pipe, "out"), f"can't be written: no file can be made in {pipe}")):
+            line = f"stlslice-slabs: {out} {line}"
+            self.room.refused(1, line, shutil.which("bash"), SLABS, "-P", PROGRAM, BRACKET, out, env=env)
 
 
-def words_are_slabs_of_the_whole(program, folder):
-    """Slabs of 1, 7, 30, 90 and 200 layers of a part of 90; and a part of whose layers and columns none is whole."""
-    env = environment(program, folder)
-    odd = os.path.join(folder, "odd part.stl")
-    with open(odd, "w") as file:
-        file.write(text(box(("-0.101", "-3", "-7.0003"), ("5.3", "0.0996", "1.1111"))))
-    for part, per, slabs in ((example("bracket.stl"), 1, 90), (example("bracket.stl"), 7, 13),
-                             (example("bracket.stl"), 30, 3), (example("bracket.stl"), 90, 1),
-                             (example("bracket.stl"), 200, 1), (odd, 10, 3)):
-        status, told, fault = run([SLABS, "-p", "200", "-l", "300", "-n", str(per), "--words", part], env=env)
-        same((status, fault), (0, b""), "words")
-        lines = told.decode().splitlines()
-        same(len(lines), slabs, f"slabs of {per} layers")
-        assert b"".join(whole(program, part, line.split()) for line in lines) == whole(program, part), "bytes differ"
+class Batches(Slabs):
+    def test_a_batch_of_tasks_is_the_whole(self):
+        slabs = self.room.file("slabs")
+        os.mkdir(slabs)
+        inches = ["--pitch", "6000", "--layer", "4000", "--rule", "nonzero", "--unit", "inch"]
+        for words, wanted in ((SHORT, COARSE), (["-p", "6000", "-l", "4000", "-r", "nonzero", "-u", "inch"], inches)):
+            for old in glob.glob(slabs + "/*"):
+                os.remove(old)
+            lines = self.lines(*words, "-n", "25", "--words", BRACKET)
+            self.room.put("slabs/words", "".join(f"{line}\n" for line in lines))
+            for number in reversed(range(len(lines))):
+                env = self.room.with_env(SLURM_ARRAY_TASK_ID=str(number))
+                same(self.room.out(BATCH, BRACKET, slabs, env=env), "", f"task {number}")
+            names = [f"{k:05}.pbm" for k in range(len(lines))]
+            same(sorted(os.listdir(slabs)), names + ["words"], "files")
+            assert b"".join(bytes_of(slabs, name) for name in names) == self.whole(words=wanted), "bytes differ"
 
+    def test_a_batch_system_runs_tasks(self):
+        """By Slurm's sbatch if it is there: the slabs joined are the whole, also after one task was lost and ran again. Each
+        task of an open part fails: sbatch ends with the program's status, and the logs have its line."""
+        add_batch_system(self.room)
+        here, slabs = self.room.file("a job"), self.room.file("a job", "its slabs")
+        os.makedirs(slabs)
+        part = self.room.put("a job/it's my part.stl", bytes_of(BRACKET))
+        lines = self.lines(*SHORT, "-n", "25", "--words", part)
+        same(len(lines), 4, "words")
+        self.room.put("a job/its slabs/words", "".join(f"{line}\n" for line in lines))
+        names = [f"{k:05}.pbm" for k in range(4)]
 
-def words_are_pngs_of_the_whole(program, folder):
-    env, part = environment(program, folder), example("bracket.stl")
-    for pngs in (["--png"], ["--png", "--depth", "1", "--mirror-x", "--mirror-y"]):
-        status, told, fault = run([SLABS, "-p", "200", "-l", "300", *pngs, "-n", "30", "--words", part], env=env)
-        same((status, fault), (0, b""), "words")
-        lines = told.decode().splitlines()
-        same(len(lines), 3, "slabs of 30 layers")
-        wanted = whole(program, part, ["--pitch", "200", "--layer", "300", *pngs])
-        assert b"".join(whole(program, part, line.split()) for line in lines) == wanted, "bytes differ"
+        def submitted(tasks):
+            words = [f"--array={tasks}", BATCH, os.path.basename(part), os.path.basename(slabs)]
+            return self.room.run("sbatch", "--wait", *words, cwd=here)
 
+        def logs():
+            return [bytes_of(log) for log in glob.glob(glob.escape(here) + "/stlslice-*.log")]
 
-def batch_of_tasks_is_the_whole(program, folder):
-    env = environment(program, folder)
-    part, slabs = example("bracket.stl"), os.path.join(folder, "slabs")
-    os.mkdir(slabs)
-    for words, wanted in ((["-p", "200", "-l", "300"], ["--pitch", "200", "--layer", "300"]),
-                          (["-p", "6000", "-l", "4000", "-r", "nonzero", "-u", "inch"],
-                           ["--pitch", "6000", "--layer", "4000", "--rule", "nonzero", "--unit", "inch"])):
-        for old in glob.glob(slabs + "/*"):
+        ran = submitted("0-3")
+        assert ran.status == 0 and ran.out.startswith("Submitted batch job "), f"sbatch: {ran}"
+        same(sorted(os.listdir(slabs)), names + ["words"], "files")
+        assert b"".join(bytes_of(slabs, name) for name in names) == self.whole(), "bytes differ"
+        same(logs(), [b""] * 4, "logs of tasks that ended well")
+        before = bytes_of(slabs, names[2])
+        os.remove(os.path.join(slabs, names[2]))
+        same(submitted("2").status, 0, "a task that runs again")
+        assert bytes_of(slabs, names[2]) == before, "bytes differ"
+        for old in (*glob.glob(glob.escape(here) + "/stlslice-*.log"), *(os.path.join(slabs, name) for name in names)):
             os.remove(old)
-        status, told, _ = run([SLABS, *words, "-n", "25", "--words", part], env=env)
-        same(status, 0, "words")
-        with open(os.path.join(slabs, "words"), "wb") as file:
-            file.write(told)
-        count = len(told.splitlines())
-        for number in reversed(range(count)):
-            status, told, fault = run([BATCH, part, slabs], env=dict(env, SLURM_ARRAY_TASK_ID=str(number)))
-            same((status, told, fault), (0, b"", b""), f"task {number}")
-        names = sorted(os.listdir(slabs))
-        same(names, [f"{k:05}.pbm" for k in range(count)] + ["words"], "files")
-        joined = b"".join(content(os.path.join(slabs, name)) for name in names[:-1])
-        assert joined == whole(program, part, wanted), "bytes differ"
+        self.room.put("a job/it's my part.stl", OPEN)
+        same(submitted("0-3").status, 4, "status of sbatch with an open part")
+        same(os.listdir(slabs), ["words"], "files of tasks that failed")
+        same(logs(), [f"{OPEN_LINE}\n".encode()] * 4, "logs of tasks that failed")
+
+    def test_a_task_that_fails_leaves_nothing(self):
+        slabs = self.room.file("slabs")
+        os.mkdir(slabs)
+        self.room.put("slabs/words", "--pitch 50 --layer 50 --grid=1,1,1,0,0,0\n")
+        words = [BATCH, self.room.put("open.stl", OPEN), slabs]
+        for task, status, line in (("0", 4, OPEN_LINE), ("1", 2, f"%s: {slabs}/words has no line for task 1")):
+            self.room.refused(status, line, *words, env=self.room.with_env(SLURM_ARRAY_TASK_ID=task))
+            same(os.listdir(slabs), ["words"], "files")
 
 
-def batch_system_runs_tasks(program, folder):
-    """By Slurm's sbatch if it is there: the slabs joined are the whole, also after one task was lost and ran again. Each task
-    of an open part fails: sbatch ends with the program's status, and the logs have its line."""
-    env = batch_system(program, folder)
-    here, slabs = os.path.join(folder, "a job"), os.path.join(folder, "a job", "its slabs")
-    os.makedirs(slabs)
-    part = os.path.join(here, "it's my part.stl")
-    shutil.copy(example("bracket.stl"), part)
-    status, told, _ = run([SLABS, "-p", "200", "-l", "300", "-n", "25", "--words", part], env=env)
-    same((status, len(told.splitlines())), (0, 4), "words")
-    with open(os.path.join(slabs, "words"), "wb") as file:
-        file.write(told)
-    sbatch = ["sbatch", "--wait", "--array=0-3", BATCH, os.path.basename(part), os.path.basename(slabs)]
-    status, told, fault = run(sbatch, cwd=here, env=env)
-    assert status == 0 and told.startswith(b"Submitted batch job "), f"sbatch: {status}, {told!r}, {fault!r}"
-    names = [f"{k:05}.pbm" for k in range(4)]
-    same(sorted(os.listdir(slabs)), names + ["words"], "files")
-    assert b"".join(content(os.path.join(slabs, name)) for name in names) == whole(program, part), "bytes differ"
-    same([content(log) for log in glob.glob(here + "/stlslice-*.log")], [b""] * 4, "logs of tasks that ended well")
-    before = content(os.path.join(slabs, names[2]))
-    os.remove(os.path.join(slabs, names[2]))
-    same(run([*sbatch[:2], "--array=2", *sbatch[3:]], cwd=here, env=env)[0], 0, "a task that runs again")
-    assert content(os.path.join(slabs, names[2])) == before, "bytes differ"
-    for log in glob.glob(here + "/stlslice-*.log"):
-        os.remove(log)
-    for name in names:
-        os.remove(os.path.join(slabs, name))
-    with open(part, "w") as file:
-        file.write(text(box((0, 0, 0), (1, 1, 1))[1:]))
-    same(run(sbatch, cwd=here, env=env)[0], 4, "status of sbatch with an open part")
-    same(os.listdir(slabs), ["words"], "files of tasks that failed")
-    logs = [content(log) for log in glob.glob(here + "/stlslice-*.log")]
-    same(logs, [b"stlslice: open edge 0 0 0 to 0 1000 0 there 0 back 1\n"] * 4, "logs of tasks that failed")
+# a stand-in's slab: the words of its grid, as long as the slab's images, which have 69 bytes each
+IMAGES = 'layers=${9#--grid=20,20,}; printf "%-$((69 * ${layers%%,*}))s" "$*"'
+GRID = "--pitch 50 --layer 100 --rule evenodd --unit mm --grid=20,20,{},0,0,{}"
+GRIDS = (GRID.format(5, 0).ljust(69 * 5) + GRID.format(4, 500).ljust(69 * 4)).encode()
 
 
-def part_is_not_overwritten(program, folder):
-    env = environment(program, folder)
-    part, link = os.path.join(folder, "part.stl"), os.path.join(folder, "link.stl")
-    shutil.copy(example("bracket.stl"), part)
-    os.link(part, link)
-    for out in (part, link):
-        same(run([SLABS, part, out], env=env), (1, b"", f"stlslice-slabs: {out} is the part itself\n".encode()), "the part itself")
-    assert content(part) == content(example("bracket.stl")), "the part has changed"
-
-
-def task_that_fails_leaves_nothing(program, folder):
-    env = environment(program, folder)
-    slabs = os.path.join(folder, "slabs")
-    os.mkdir(slabs)
-    with open(os.path.join(slabs, "words"), "w") as file:
-        file.write("--pitch 50 --layer 50 --grid=1,1,1,0,0,0\n")
-    with open(os.path.join(folder, "open.stl"), "w") as file:
-        file.write(text(box((0, 0, 0), (1, 1, 1))[1:]))
-    words = [BATCH, os.path.join(folder, "open.stl"), slabs]
-    found = run(words, env=dict(env, SLURM_ARRAY_TASK_ID="0"))
-    same(found, (4, b"", b"stlslice: open edge 0 0 0 to 0 1000 0 there 0 back 1\n"), "a part that is open")
-    same(os.listdir(slabs), ["words"], "files")
-    found = run(words, env=dict(env, SLURM_ARRAY_TASK_ID="1"))
-    same(found, (2, b"", f"slabs.sbatch: {slabs}/words has no line for task 1\n".encode()), "a task beyond the last")
-    same(os.listdir(slabs), ["words"], "files")
-
-
-def wrong_words_are_refused(program, folder):
-    env = environment(program, folder)
-    part = example("bracket.stl")
-    for option in ("-p", "-l", "-n", "-r", "-u", "-j", "-S", "-P", "--depth"):
-        same(run([SLABS, option], env=env), (2, b"", f"stlslice-slabs: {option} takes a value\n".encode()), option)
-    for words, status, line in ((["-p", "0", part, "x"], 2, "-p takes a whole number, 1 to 999999"),
-                                (["-l", "1000000", part, "x"], 2, "-l takes a whole number, 1 to 999999"),
-                                (["-n", "", part, "x"], 2, "-n takes a whole number, 1 to 999999"),
-                                (["-x", part, "x"], 2, "there is no option -x"),
-                                (["-r", "odd", "--words", part], 2, "-r takes evenodd, nonzero or positive"),
-                                (["-r", "nonzero;touch x", part, "x"], 2, "-r takes evenodd, nonzero or positive"),
-                                (["-u", "foot", part, "x"], 2, "-u takes mm or inch"),
-                                (["-S", ":;touch x", part, "x"], 2, "-S takes machines, as host1,host2,:"),
-                                (["--png", "--depth", "2", part, "x"], 2, "--depth takes 8 or 1"),
-                                (["--mirror-x", part, "x"], 2, "--depth, --mirror-x and --mirror-y go with --png"),
-                                (["--depth", "8", part, "x"], 2, "--depth, --mirror-x and --mirror-y go with --png"),
-                                (["-", "x"], 2, "there is no option -"),
-                                ([part], 2, "it takes part.stl and layers.pbm, or --words and part.stl"),
-                                ([part, ""], 2, "the output has no name"),
-                                ([folder, "x"], 1, f"{folder} can't be read"),
-                                (["none.stl", "x"], 1, "none.stl can't be read"),
-                                (["no\n.stl", "x"], 1, "no\\x0a.stl can't be read")):
-        same(run([SLABS, *words], cwd=folder, env=env), (status, b"", f"stlslice-slabs: {line}\n".encode()), str(words))
-        for place in ("2>&-", "2> /dev/full"):
-            found = run(["bash", "-c", f'exec "$@" {place}', "bash", SLABS, *words], cwd=folder, env=env)
-            same(found, (status, b"", b""), f"{words} {place}")
-    empty = os.path.join(folder, "empty.stl")
-    with open(empty, "w") as file:
-        file.write("solid\nendsolid\n")
-    same(run([SLABS, empty, "x"], cwd=folder, env=env), (1, b"", b"stlslice-slabs: the part has no facets\n"), "no facets")
-    found = run([SLABS, os.path.join(ROOT, "README.md"), "x"], cwd=folder, env=env)
-    same(found, (3, b"", b"stlslice: expected solid at byte 0\n"), "the program's own refusal")
-    with open(os.path.join(folder, "a b.stl"), "wb") as file:
-        file.write(b"solid".ljust(80) + (2).to_bytes(4, "little") + bytes(100))
-    line = (b"stlslice-slabs: the part is binary STL, and text is taken; convert it: admesh --no-check --write-ascii-stl=text.stl "
-            b"a\\ b.stl\n")
-    for words in (["a b.stl", "x"], ["--words", "a b.stl"]):
-        same(run([SLABS, *words], cwd=folder, env=env), (3, b"", line), "a binary STL")
-    binary_is_not_written_over(folder, env)
-    same(sorted(os.listdir(folder)), ["a b.stl", "empty.stl", "home", "tools"], "files")
-
-
-def binary_is_not_written_over(folder, env):
-    """The command of a refusal makes a file that isn't there yet, of whatever name the part is."""
-    here = os.path.join(folder, "here")
-    os.mkdir(here)
-    for name, free in (("text.stl", "text-2.stl"), ("text-2.stl", "text-3.stl")):
-        shutil.copy(os.path.join(folder, "a b.stl"), os.path.join(here, name))
-        line = f"stlslice-slabs: the part is binary STL, and text is taken; convert it: admesh --no-check --write-ascii-stl={free} {name}\n"
-        same(run([SLABS, name, "x"], cwd=here, env=env), (3, b"", line.encode()), "a binary STL of that name")
-    shutil.rmtree(here)
-
-
-def few_tools(folder, *others):
-    """An environment whose PATH has only what the command takes before GNU parallel, and stand-ins for other tools."""
-    path = os.path.join(folder, "few")
-    os.makedirs(path)
-    for tool in ("cat", "dirname", "od", "realpath", "wc"):
-        os.symlink(shutil.which(tool), os.path.join(path, tool))
-    for tool in others:
-        os.symlink(shutil.which("true"), os.path.join(path, tool))
-    return {"PATH": path}
-
-
-def missing_tools_are_told(program, folder):
-    env, path = few_tools(folder), alone("stlslice-slabs", folder)
-    for words, line in (([], "stlslice is neither beside this command nor on PATH; -P says where it is"),
-                        (["-S", ":"], "stlslice is not on PATH; -P says where it is, here and there"),
-                        (["-P", "none"], "no program at none"), (["-P", folder], f"no program at {folder}"),
-                        (["-S", ":", "-P", "none/at/all"], "no program at none/at/all"),
-                        (["-P", program], "GNU parallel is missing (Debian: apt-get install parallel)")):
-        found = run([shutil.which("bash"), path, *words, example("bracket.stl"), "x"], cwd=folder, env=env)
-        same(found, (1, b"", f"stlslice-slabs: {line}\n".encode()), str(words))
-    same(sorted(os.listdir(folder)), ["alone", "few"], "files")
-
-
-def outputs_are_plain_files(program, folder):
-    """GNU parallel, which isn't run, has a stand-in."""
-    env = few_tools(folder, "parallel")
-    pipe, link, none = (os.path.join(folder, name) for name in ("pipe", "link", "none"))
-    os.mkfifo(pipe)
-    os.symlink("elsewhere", link)
-    for out, line in ((pipe, "is no plain file"), (link, "is no plain file"), (folder, "is no plain file"),
-                      (os.path.join(none, "out"), f"can't be written: no file can be made in {none}"),
-                      (os.path.join(pipe, "out"), f"can't be written: no file can be made in {pipe}")):
-        found = run([shutil.which("bash"), SLABS, "-P", program, example("bracket.stl"), out], env=env)
-        same(found, (1, b"", f"stlslice-slabs: {out} {line}\n".encode()), "an output that is no plain file")
-    same(sorted(os.listdir(folder)), ["few", "link", "pipe"], "files")
-
-
-def pipe_gives_words_alone(program, folder):
-    """A part that can be read once is no part of slabs, which each read it."""
-    env, part, pipe = environment(program, folder), example("bracket.stl"), os.path.join(folder, "pipe")
-    os.mkfifo(pipe)
-    line = f"stlslice-slabs: {pipe} is no plain file, and each slab reads the part anew\n"
-    same(run([SLABS, pipe, "x"], cwd=folder, env=env), (1, b"", line.encode()), "a pipe")
-    found = run(["bash", "-c", '"$0" --words <(cat "$1")', SLABS, part], env=env)
-    same(found, run([SLABS, "--words", part], env=env), "words of a pipe")
-
-
-def parallel_slabs_are_the_whole(program, folder):
-    env = environment(program, folder)
-    part, out = os.path.join(folder, "it's my part.stl"), os.path.join(folder, "all layers.pbm")
-    shutil.copy(example("bracket.stl"), part)
-    with open(out, "w") as file:
-        file.write("what was there before")
-    for words in (["-n", "7", "-j", "3"], ["-n", "100"], ["-n", "30", "-P", program]):
-        found = run([SLABS, "-p", "200", "-l", "300", *words, os.path.basename(part), os.path.basename(out)], cwd=folder,
-                    env=env)
-        same(found, (0, b"", b""), str(words))
-        assert content(out) == whole(program, part), f"{words}: bytes differ"
-    same(sorted(os.listdir(folder)), ["all layers.pbm", "home", "it's my part.stl", "tools"], "files")
-
-
-def parallel_pngs_are_the_whole(program, folder):
-    env, out = environment(program, folder), os.path.join(folder, "layers.pngs")
-    for pngs in (["--png"], ["--png", "--depth", "1", "--mirror-x"], ["--depth", "8", "--mirror-y", "--mirror-x", "--png"]):
-        found = run([SLABS, "-p", "200", "-l", "300", "-n", "20", "-j", "3", *pngs, example("bracket.stl"), out], env=env)
-        same(found, (0, b"", b""), str(pngs))
-        wanted = whole(program, example("bracket.stl"), ["--pitch", "200", "--layer", "300", *pngs])
-        assert content(out) == wanted, f"{pngs}: bytes differ"
-
-
-def slicer(folder, body):
-    """A stand-in for the slicer: it answers the box, and slices as `body` says."""
-    path = os.path.join(folder, "slicer")
-    with open(path, "w") as file:
-        file.write(f"#!/bin/sh\ncase $* in\n*--box*) echo facets 12 box 0 0 0 1000 1000 900; exit;;\nesac\n{body}\n")
-    os.chmod(path, 0o755)
-    return path
-
-
-GRIDS = b"".join(b"--pitch 50 --layer 100 --rule evenodd --unit mm --grid=20,20,%d,0,0,%d\n" % it for it in ((5, 0), (4, 500)))
-
-
-def names_are_names(program, folder):
-    """Names that a shell, an option or a mark of GNU parallel could be taken for; a stand-in writes its slab's grid as an image."""
-    env, names = environment(program, folder), {"home", "tools", "slicer"}
-    tool = slicer(folder, 'echo "$*"')
-    for name in ("-f.pbm", "a b'c\"d", "{}{.}{#}", "$(touch x);`touch x`", "{=system('touch x')=}\n{}", "\\n \u00e4"):
-        part, path, out = f"./part {name}", f"./program {name}", name
-        shutil.copy(example("bracket.stl"), os.path.join(folder, part))
-        shutil.copy(tool, os.path.join(folder, path))
-        found = run([SLABS, "-l", "100", "-n", "5", "-P", path, part, out], cwd=folder, env=env)
-        same(found, (0, b"", b""), f"a run with {name!r}")
-        same(content(os.path.join(folder, out)), GRIDS, f"the slabs with {name!r}")
-        names |= {part[2:], path[2:], out}
-    same(set(os.listdir(folder)), names, "files")
-
-
-def settings_change_nothing(program, folder):
-    """Those of GNU parallel that a user may have."""
-    env, out = environment(program, folder), os.path.join(folder, "out")
-    os.mkdir(os.path.join(folder, "home", ".parallel"))
-    with open(os.path.join(folder, "home", ".parallel", "config"), "w") as file:
-        file.write("--line-buffer --tag\n")
-    env.update(PARALLEL="--tag", PARALLEL_SHELL="/bin/false")
-    found = run([SLABS, "-l", "100", "-n", "5", "-P", slicer(folder, 'echo "$*"'), example("bracket.stl"), out], env=env)
-    same(found, (0, b"", b""), "run")
-    same(content(out), GRIDS, "the slabs")
-
-
-def signals_end_all_slabs(program, folder):
-    """At once, and further signals leave nothing behind."""
-    env, pids = environment(program, folder), os.path.join(folder, "pids")
-    tool = slicer(folder, f"echo $$ >> '{pids}'\nexec sleep 60")
-    for number in (signal.SIGHUP, signal.SIGINT, signal.SIGTERM):
-        open(pids, "w").close()
-        start = time.monotonic()
-        words = [SLABS, "-l", "100", "-n", "3", "-j", "3", "-P", tool, example("bracket.stl"), "out"]
-        child = subprocess.Popen(words, cwd=folder, env=env, stderr=subprocess.PIPE,
-                                 preexec_fn=lambda: signal.signal(number, signal.SIG_DFL))
-        while content(pids).count(b"\n") < 3:
-            time.sleep(0.05)
-        for _ in range(3):
-            child.send_signal(number)
-            time.sleep(0.05)
-        same((child.wait(), child.stderr.read()), (128 + number, b""), f"signal {number}")
-        child.stderr.close()
-        assert time.monotonic() - start < 50, "the slabs went on"
-        # an ended process that nobody waited for has no words any more
-        left = [pid for pid in content(pids).decode().split() if os.path.exists(f"/proc/{pid}") and content(f"/proc/{pid}/cmdline")]
-        same(left, [], "slabs that go on")
-        same(sorted(os.listdir(folder)), ["home", "pids", "slicer", "tools"], "files")
-
-
-def standard_error_may_be_closed_or_full(program, folder):
-    env, out = environment(program, folder), os.path.join(folder, "out")
-    for place in ("2>&-", "2> /dev/full"):
-        for body, status in (('echo "$*"', 0), ("echo stlslice: out of memory >&2; exit 6", 6)):
-            words = [SLABS, "-l", "100", "-n", "5", "-P", slicer(folder, body), example("bracket.stl"), out]
-            same(run(["bash", "-c", f'exec "$@" {place}', "bash", *words], env=env), (status, b"", b""), f"{body} {place}")
-            same(content(out), GRIDS, "what was made")
-        os.remove(out)
-
-
-def first_failure_halts(program, folder):
-    """Of a stand-in's slabs one fails, and those below and above it would take a minute."""
-    env, out = environment(program, folder), os.path.join(folder, "out.pbm")
-    tool = slicer(folder, "case $* in *0,0,300) echo stlslice: out of memory >&2; exit 6;; *0,0,0|*0,0,600) sleep 60;; esac")
-    with open(out, "w") as file:
-        file.write("what was there before")
-    start = time.monotonic()
-    status, told, fault = run([SLABS, "-l", "100", "-n", "3", "-j", "3", "-P", tool, example("bracket.stl"), out], env=env)
-    same((status, told), (6, b""), "status")
-    assert b"stlslice: out of memory\n" in fault, f"the slab's line is missing: {fault!r}"
-    assert time.monotonic() - start < 30, "the other slabs went on"
-    same(content(out), b"what was there before", "the file that was there")
-    same(sorted(os.listdir(folder)), ["home", "out.pbm", "slicer", "tools"], "files")
-
-
-def server(folder):
+def server(room):
     """An ssh server of this test alone, and the words that reach it."""
-    ssh = os.path.join(folder, "ssh")
+    ssh = room.file("ssh")
     os.mkdir(ssh, 0o700)
     for name in ("host", "user"):
         subprocess.run(["ssh-keygen", "-q", "-t", "ed25519", "-N", "", "-f", os.path.join(ssh, name)], check=True)
     with socket.socket() as free:
         free.bind(("127.0.0.1", 0))
         port = free.getsockname()[1]
-    with open(os.path.join(ssh, "sshd_config"), "w") as file:
-        file.write(f"Port {port}\nListenAddress 127.0.0.1\nHostKey {ssh}/host\nAuthorizedKeysFile {ssh}/user.pub\n"
-                   f"StrictModes no\nUsePAM no\nPasswordAuthentication no\nPermitRootLogin yes\nPidFile {ssh}/pid\n")
-    with open(os.path.join(ssh, "ssh_config"), "w") as file:
-        file.write(f"Host one two\nHostName 127.0.0.1\nPort {port}\nIdentityFile {ssh}/user\nIdentitiesOnly yes\n"
-                   f"UserKnownHostsFile {ssh}/known\nStrictHostKeyChecking no\nLogLevel ERROR\nBatchMode yes\n")
+    settings = room.put("ssh/sshd_config", f"Port {port}\nListenAddress 127.0.0.1\nHostKey {ssh}/host\n"
+                        f"AuthorizedKeysFile {ssh}/user.pub\nStrictModes no\nUsePAM no\nPasswordAuthentication no\n"
+                        f"PermitRootLogin yes\nPidFile {ssh}/pid\n")
+    words = ["ssh", "-F",
+             room.put("ssh/ssh_config", f"Host one two\nHostName 127.0.0.1\nPort {port}\nIdentityFile {ssh}/user\n"
+                                   f"IdentitiesOnly yes\nUserKnownHostsFile {ssh}/known\nStrictHostKeyChecking no\n"
+                                   "LogLevel ERROR\nBatchMode yes\n")]
     with open(os.path.join(ssh, "log"), "wb") as log:
-        child = subprocess.Popen(["/usr/sbin/sshd", "-D", "-e", "-f", os.path.join(ssh, "sshd_config")], stderr=log)
-    words = ["ssh", "-F", os.path.join(ssh, "ssh_config")]
+        child = subprocess.Popen(["/usr/sbin/sshd", "-D", "-e", "-f", settings], stderr=log)
     for _ in range(600):
-        if run(words + ["one", "true"])[0] == 0:
+        if room.run(*words, "one", "true").status == 0:
             return child, words
         time.sleep(0.1)
     child.terminate()
     child.wait()
-    raise AssertionError(content(os.path.join(ssh, "log")).decode())
+    raise AssertionError(room.get("ssh/log").decode())
 
 
-def slabs_over_ssh_are_the_whole(program, folder):
-    env = environment(program, folder)
-    child, words = server(folder)
-    try:
-        out = os.path.join(folder, "out.pbm")
-        found = run([SLABS, "-p", "200", "-l", "300", "-n", "20", "-S", "2/one,1/two,:", "-P", program,
-                     example("bracket.stl"), out], env=dict(env, PARALLEL_SSH=" ".join(words)))
-        same(found, (0, b"", b""), "run")
-        assert content(out) == whole(program, example("bracket.stl")), "bytes differ"
-        same(run(words + ["one", "ls -A | grep '^stlslice-.*[.]stl$'"])[1], b"", "files in the login folder there")
-        accepted = content(os.path.join(folder, "ssh", "log")).count(b"Accepted publickey")
-        assert accepted > 8, f"only {accepted} logins: nothing ran there"
-    finally:
-        child.terminate()
-        child.wait()
+@needs("parallel")
+class Parallel(Slabs):
+    def setUp(self):
+        super().setUp()
+        if not self.room.run("parallel", "--version").out.startswith("GNU parallel"):
+            skip("parallel isn't GNU parallel (Debian: parallel)")
 
+    def test_slabs_are_the_whole(self):
+        room = self.room
+        part = room.put("it's my part.stl", bytes_of(BRACKET))
+        out = room.put("all layers.pbm", "what was there before")
+        for words in (["-n", "7", "-j", "3"], ["-n", "100"], ["-n", "30", "-P", PROGRAM]):
+            words = [SLABS, *SHORT, *words, os.path.basename(part), os.path.basename(out)]
+            same(room.out(*words, cwd=room.path), "", str(words))
+            assert bytes_of(out) == self.whole(), f"{words}: bytes differ"
+        same(room.files(), ["all layers.pbm", "it's my part.stl"], "files")
 
-def missing_tools():
-    """What test_slabs_tools.py needs and isn't here: for slabs in parallel, and for these over ssh."""
-    is_gnu = shutil.which("parallel") and run(["parallel", "--version"])[1].startswith(b"GNU parallel")
-    parallel = [] if is_gnu else ["parallel"]
-    far = [tool for tool in ("ssh", "ssh-keygen", "rsync", "/usr/sbin/sshd") if not shutil.which(tool)]
-    if os.geteuid() == 0 and not os.path.isdir("/run/sshd"):
-        far.append("/run/sshd, which sshd wants")
-    return parallel, parallel + far
+    def test_pngs_are_the_whole(self):
+        out = self.room.file("layers.pngs")
+        for pngs in (["--png"], ["--png", "--depth", "1", "--mirror-x"],
+                     ["--depth", "8", "--mirror-y", "--mirror-x", "--png"]):
+            same(self.room.out(SLABS, *SHORT, "-n", "20", "-j", "3", *pngs, BRACKET, out), "", str(pngs))
+            assert bytes_of(out) == self.whole(words=[*COARSE, *pngs]), f"{pngs}: bytes differ"
 
+    def by_one(self, start=""):
+        """Words by which a stand-in gives nine slabs of a layer, without an output."""
+        tool = self.slicer(f"{start}\nhead -c 69 /dev/zero")
+        return [SLABS, "-l", "100", "-n", "1", "-j", "1", "-P", tool, BRACKET]
 
-if __name__ == "__main__":
-    main([words_are_slabs_of_the_whole, words_are_pngs_of_the_whole, part_is_not_overwritten, batch_of_tasks_is_the_whole,
-          batch_system_runs_tasks, task_that_fails_leaves_nothing, wrong_words_are_refused, pipe_gives_words_alone,
-          missing_tools_are_told, outputs_are_plain_files])
+    def test_a_dash_is_standard_output(self):
+        words = [*self.by_one(), "-"]
+        same(self.room.out(*words, text=False, cwd=self.room.path), bytes(9 * 69), "images on standard output")
+        for place, line in (("> /dev/full", "standard output can't be written: No space left on device"),
+                            (">&-", "standard output is closed")):
+            self.room.refused(1, f"%s: {line}", *words, script=f'exec "$@" {place}', cwd=self.room.path)
+        same(self.room.files(), ["slicer"], "files")
+
+    def test_slabs_are_not_moved_into_a_folder(self):
+        """A folder, and a link to one, that appear at the output's name while the slabs are made."""
+        for made in ("mkdir -p out", "mkdir -p other; ln -sfn other out"):
+            ran = self.room.run(*self.by_one(f"cd {self.room.path}; {made}"), "out", cwd=self.room.path)
+            same(ran, (1, "", "stlslice-slabs: out is no plain file\n"), made)
+            same(os.listdir(self.room.file("out")), [], "files there")
+            self.room.out("rm", "-rf", self.room.file("out"))
+
+    def test_slabs_have_lines_of_their_own(self):
+        """Where bash, mktemp and mv say theirs: an output that ends in a slash, a long name, no temporary folder."""
+        words, tool, long, none = self.by_one(), self.room.file("slicer"), 300 * "n", self.room.file("none")
+        for out, folder, line in (
+                ("new/", self.room.path, "new/ is no plain file"),
+                (long, self.room.path, f"{long} can't be written: File name too long"),
+                ("out", none, f"the temporary folder {none} can't be used: No such file or directory"),
+                ("out", tool, f"the temporary folder {tool} can't be used: Not a directory")):
+            self.room.refused(1, f"%s: {line}", *words, out, cwd=self.room.path, env=self.room.with_env(TMPDIR=folder))
+
+    @unittest.skipUnless(os.geteuid() == 0, "only root can give a file to another owner")
+    def test_a_file_of_another_owner_is_told(self):
+        """In a folder like /tmp, where nobody may move another's file."""
+        room, words = self.room, [os.path.join(ROOT, "commands", "stlslice-slabs"), *self.by_one()[1:]]
+        os.chmod(room.folder.name, 0o755)
+        os.chmod(room.path, 0o1777)
+        os.chown(room.put("out", "before"), 1, 1)
+        os.chown(room.path, 1, 1)
+        as_another = ["setpriv", "--reuid=65534", "--regid=65534", "--clear-groups"]
+        if any(room.run(*as_another, "test", "-r", path).status for path in (BRACKET, words[0])):
+            skip("the repository can't be read by another user here")
+        ran = room.run(*as_another, *words, "out", cwd=room.path, env=room.with_env(HOME=room.path, TMPDIR="/tmp"))
+        same(ran, (1, "", "stlslice-slabs: out can't be written: Operation not permitted\n"), "a file of another owner")
+        same((sorted({*room.files()} - {".parallel"}), room.get("out")), (["out", "slicer"], b"before"), "files")
+
+    def test_names_are_names(self):
+        """Those that a shell, an option or a mark of GNU parallel could be taken for; a stand-in writes its slab's grid."""
+        room, names, tool = self.room, {"slicer"}, self.slicer(IMAGES)
+        for name in ("-f.pbm", "a b'c\"d", "{}{.}{#}", "$(touch x);`touch x`", "{=system('touch x')=}\n{}", "\\n \u00e4"):
+            part, path = f"part {name}", f"program {name}"
+            shutil.copy(BRACKET, room.file(part))
+            shutil.copy(tool, room.file(path))
+            told = room.out(SLABS, "-l", "100", "-n", "5", "-P", f"./{path}", f"./{part}", name, cwd=room.path)
+            same(told, "", f"a run with {name!r}")
+            same(room.get(name), GRIDS, f"the slabs with {name!r}")
+            names |= {part, path, name}
+        same(set(room.files()), names, "files")
+
+    def test_settings_change_nothing(self):
+        """Those of GNU parallel that a user may have."""
+        os.mkdir(os.path.join(self.room.home, ".parallel"))
+        self.room.put(os.path.join(self.room.home, ".parallel", "config"), "--line-buffer --tag\n")
+        words = ["-l", "100", "-n", "5", "-P", self.slicer(IMAGES), BRACKET, self.room.file("out")]
+        env = self.room.with_env(PARALLEL="--tag", PARALLEL_SHELL="/bin/false")
+        same(self.room.out(SLABS, *words, env=env), "", "run")
+        same(self.room.get("out"), GRIDS, "the slabs")
+
+    def test_signals_end_all_slabs(self):
+        """At once, and further signals leave nothing behind."""
+        room = self.room
+        tool = self.slicer(f"echo $$ >> '{room.file('pids')}'\nexec sleep 60")
+        words = [SLABS, "-l", "100", "-n", "3", "-j", "3", "-P", tool, BRACKET, "out"]
+        for number in (signal.SIGHUP, signal.SIGINT, signal.SIGTERM):
+            room.put("pids", "")
+            start = time.monotonic()
+            child = subprocess.Popen(words, cwd=room.path, env=room.environment, stderr=subprocess.PIPE,
+                                     preexec_fn=lambda: signal.signal(number, signal.SIG_DFL))
+            while room.get("pids").count(b"\n") < 3:
+                time.sleep(0.05)
+            for _ in range(3):
+                child.send_signal(number)
+                time.sleep(0.05)
+            same((child.wait(), child.stderr.read()), (128 + number, b""), f"signal {number}")
+            child.stderr.close()
+            assert time.monotonic() - start < 50, "the slabs went on"
+            # a process that was killed may need a moment to end on a busy machine
+            waited(lambda: all(map(has_ended, room.get("pids").decode().split())), 5)
+            same(room.files(), ["pids", "slicer"], "files")
+
+    def test_standard_error_may_be_closed_or_full(self):
+        out = self.room.file("out")
+        for place in ("2>&-", "2> /dev/full"):
+            for body, status in ((IMAGES, 0), ("echo stlslice: out of memory >&2; exit 6", 6)):
+                words = [SLABS, "-l", "100", "-n", "5", "-P", self.slicer(body), BRACKET, out]
+                same(self.room.bash(f'exec "$@" {place}', *words), (status, "", ""), f"{body} {place}")
+                same(bytes_of(out), GRIDS, "what was made")
+            os.remove(out)
+
+    def test_the_first_failure_halts(self):
+        """Of a stand-in's slabs one fails, and those below and above it would take a minute."""
+        out = self.room.put("out.pbm", "what was there before")
+        fails = "*0,0,300) echo stlslice: out of memory >&2; exit 6;;"
+        tool = self.slicer(f"case $* in {fails} *0,0,0|*0,0,600) sleep 60;; esac")
+        start = time.monotonic()
+        ran = self.room.run(SLABS, "-l", "100", "-n", "3", "-j", "3", "-P", tool, BRACKET, out)
+        same((ran.status, ran.out), (6, ""), "status")
+        assert "stlslice: out of memory\n" in ran.fault, f"the slab's line is missing: {ran.fault!r}"
+        assert time.monotonic() - start < 30, "the other slabs went on"
+        same(bytes_of(out), b"what was there before", "the file that was there")
+        same(self.room.files(), ["out.pbm", "slicer"], "files")
+
+    @needs("ssh", "ssh-keygen", "rsync", "/usr/sbin/sshd")
+    def test_slabs_over_ssh_are_the_whole(self):
+        if os.geteuid() == 0 and not os.path.isdir("/run/sshd"):
+            skip("/run/sshd is missing, which sshd wants")
+        child, words = server(self.room)
+        try:
+            out = self.room.file("out.pbm")
+            told = self.room.out(SLABS, *SHORT, "-n", "20", "-S", "2/one,1/two,:", "-P", PROGRAM, BRACKET, out,
+                                 env=self.room.with_env(PARALLEL_SSH=" ".join(words)))
+            same(told, "", "run")
+            assert bytes_of(out) == self.whole(), "bytes differ"
+            left = self.room.run(*words, "one", "ls -A | grep '^stlslice-.*[.]stl$'").out
+            same(left, "", "files in the login folder there")
+            accepted = self.room.get("ssh/log").count(b"Accepted publickey")
+            assert accepted > 8, f"only {accepted} logins: nothing ran there"
+        finally:
+            child.terminate()
+            child.wait()

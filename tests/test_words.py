@@ -1,9 +1,8 @@
-#!/usr/bin/env python3
 """Words, values, defaults and statuses are the same in --help, the manual, the three completions and docs/usage.md."""
 
 import re
 
-from common import Room, holds, same, text_of
+from common import Together, same, text_of
 
 LONG = r"--[a-z]+(?:-[a-z])?"
 
@@ -89,72 +88,73 @@ def default_of(text):
     return next(filter(None, found.groups())) if found else None
 
 
-def main():
-    with Room() as room:
-        told = room.run("stlslice", "--help")
-        try_values(room)
-    same("status of --help", (told.returncode, told.stderr), (0, ""))
-    words, said, ended = of_help(plain(told.stdout))
-    holds("--help tells words", len(words) > 9 and words["--pitch"] == "N")
-    usage, manual = plain(text_of("docs/usage.md")), plain(text_of("man/stlslice.1"))
-    for place, (other, tells, statuses_told) in (("the manual", of_manual(manual)), ("docs/usage.md", of_usage(usage))):
-        same(f"words and values of {place}", other, words)
-        same(f"statuses of {place}", sorted(statuses_told), sorted(ended))
-        for number in ended:
-            same(f"meaning of status {number} in {place}", statuses_told[number].rstrip("."), ended[number].rstrip("."))
-        for name in words:
-            same(f"default of {name} in {place}", default_of(tells[name]), default_of(said[name]))
-        for name, (least, most) in limits(said).items():
-            holds(f"{name} in {place} takes {least} to {most}", re.search(rf"\b{least} to {most}\b", tells[name]))
-        counts = re.search(r"\b\d+, \d+ and \d+\b", said["--grid"])[0]
-        holds(f"--grid in {place} takes counts of {counts}", counts in tells["--grid"])
-        for name in ("--rule", "--unit", "--depth"):
-            for value in choices_of(said[name]):
-                holds(f"{name} in {place} has {value}", re.search(rf"\b{value}\b", tells[name]))
-    summary = set(re.findall(r"Fl -([a-z-]+)", manual.split(".Sh SYNOPSIS")[1].split(".Sh DESCRIPTION")[0]))
-    same("words of the manual's synopsis", sorted("--" + it for it in summary), sorted(words))
-    takers = {name for name in words if words[name]}
-    for shell, (other, choices, taken) in (("bash", of_bash(text_of("completions/stlslice.bash"))),
-                                           ("zsh", of_zsh(text_of("completions/_stlslice"))),
-                                           ("fish", of_fish(text_of("completions/stlslice.fish")))):
-        same(f"words that {shell} completes", sorted(other), sorted(words))
-        same(f"words that take a value for {shell}", sorted(taken), sorted(takers))
-        for name in ("--rule", "--unit", "--depth"):
-            same(f"values of {name} for {shell}", sorted(choices[name]), sorted(choices_of(said[name])))
-        told = {"zsh": "completions/_stlslice", "fish": "completions/stlslice.fish"}.get(shell)
-        for name in ("--rule", "--unit", "--depth", "--workers"):
-            if told:
-                stated = re.search(rf"(?m)^.*-l? ?{name.lstrip('-')}\b.*\(default (\w+)\)", text_of(told))
-                same(f"default of {name} for {shell}", stated and stated[1], default_of(said[name]))
-        counts = sorted(map(int, choices["--workers"]))
-        same(f"least and most workers for {shell}", (counts[0], counts[-1]), limits(said)["--workers"])
-
-
-def try_values(room):
-    """The program itself takes the values that are given, and none beside them. An empty input then gives status 3."""
-    taken = {"--rule": ["evenodd", "nonzero", "positive"], "--unit": ["mm", "inch"], "--workers": ["1", "64"],
-             "--pitch": ["1", "100000"], "--layer": ["1", "100000"], "--probe": ["0,0,0"],
-             "--grid": ["16384,16384,65535,-128000000,-128000000,128000000"], "--depth": ["8", "1"]}
-    refused = {"--rule": ["odd"], "--unit": ["m"], "--workers": ["0", "65"], "--pitch": ["0", "100001"],
-               "--layer": ["0", "100001"], "--probe": ["0,0"], "--grid": ["1,1,1,0,0,128000001"], "--depth": ["2"]}
-    for status, values in ((3, taken), (2, refused)):
-        for name in values:
-            for value in values[name]:
-                needed = [it for it in ("--pitch=9", "--layer=9", "--png") if not it.startswith(name)]
-                same(f"status of {name}={value}", room.run("stlslice", *needed, f"{name}={value}").returncode, status)
-
-
 def limits(said):
-    """The limits that --help gives for its numbers, by word."""
     return {name: tuple(map(int, re.search(r"(\d+) to (\d+)", said[name]).groups()))
             for name in ("--pitch", "--layer", "--workers")}
 
 
 def choices_of(text):
-    """The values among which a word of --help chooses."""
     found = [it for it in ("evenodd", "nonzero", "positive", "mm", "inch") if re.search(rf"\b{it}\b", text)]
     return found or list(re.search(r"\b(8) or (1)\b", text).groups())
 
 
-if __name__ == "__main__":
-    main()
+CHOOSING = ("--rule", "--unit", "--depth")
+SHELLS = {"bash": ("completions/stlslice.bash", of_bash), "zsh": ("completions/_stlslice", of_zsh),
+          "fish": ("completions/stlslice.fish", of_fish)}
+TAKEN = {"--rule": ["evenodd", "nonzero", "positive"], "--unit": ["mm", "inch"], "--workers": ["1", "64"],
+         "--pitch": ["1", "100000"], "--layer": ["1", "100000"], "--probe": ["0,0,0"],
+         "--grid": ["16384,16384,65535,-128000000,-128000000,128000000"], "--depth": ["8", "1"]}
+REFUSED = {"--rule": ["odd"], "--unit": ["m"], "--workers": ["0", "65"], "--pitch": ["0", "100001"],
+           "--layer": ["0", "100001"], "--probe": ["0,0"], "--grid": ["1,1,1,0,0,128000001"], "--depth": ["2"]}
+
+
+class Words(Together):
+    @classmethod
+    def make_ready(cls, room):
+        cls.words, cls.said, cls.ended = of_help(plain(room.out("stlslice", "--help")))
+        assert len(cls.words) > 9 and cls.words["--pitch"] == "N", cls.words
+
+    def compared(self, place, other, tells, statuses_told):
+        words, said, ended = self.words, self.said, self.ended
+        same(other, words, f"words and values of {place}")
+        same(sorted(statuses_told), sorted(ended), f"statuses of {place}")
+        for number in ended:
+            same(statuses_told[number].rstrip("."), ended[number].rstrip("."), f"meaning of status {number} in {place}")
+        for name in words:
+            same(default_of(tells[name]), default_of(said[name]), f"default of {name} in {place}")
+        for name, (least, most) in limits(said).items():
+            assert re.search(rf"\b{least} to {most}\b", tells[name]), f"{name} in {place} doesn't take {least} to {most}"
+        counts = re.search(r"\b\d+, \d+ and \d+\b", said["--grid"])[0]
+        assert counts in tells["--grid"], f"--grid in {place} doesn't take counts of {counts}"
+        for name in CHOOSING:
+            for value in choices_of(said[name]):
+                assert re.search(rf"\b{value}\b", tells[name]), f"{name} in {place} hasn't {value}"
+
+    def test_manual_and_usage_tell_what_help_tells(self):
+        usage, manual = plain(text_of("docs/usage.md")), plain(text_of("man/stlslice.1"))
+        self.compared("the manual", *of_manual(manual))
+        self.compared("docs/usage.md", *of_usage(usage))
+        summary = set(re.findall(r"Fl -([a-z-]+)", manual.split(".Sh SYNOPSIS")[1].split(".Sh DESCRIPTION")[0]))
+        same(sorted("--" + it for it in summary), sorted(self.words), "words of the manual's synopsis")
+
+    def test_completions_have_what_help_tells(self):
+        takers = {name for name in self.words if self.words[name]}
+        for shell, (path, read) in SHELLS.items():
+            other, choices, taken = read(text_of(path))
+            same(sorted(other), sorted(self.words), f"words that {shell} completes")
+            same(sorted(taken), sorted(takers), f"words that take a value for {shell}")
+            for name in CHOOSING:
+                same(sorted(choices[name]), sorted(choices_of(self.said[name])), f"values of {name} for {shell}")
+            for name in (*CHOOSING, "--workers") if shell != "bash" else ():
+                stated = re.search(rf"(?m)^.*-l? ?{name.lstrip('-')}\b.*\(default (\w+)\)", text_of(path))
+                same(stated and stated[1], default_of(self.said[name]), f"default of {name} for {shell}")
+            counts = sorted(map(int, choices["--workers"]))
+            same((counts[0], counts[-1]), limits(self.said)["--workers"], f"least and most workers for {shell}")
+
+    def test_the_program_takes_these_values_and_none_beside_them(self):
+        """An empty input then gives status 3."""
+        for status, values in ((3, TAKEN), (2, REFUSED)):
+            for name in values:
+                for value in values[name]:
+                    needed = [it for it in ("--pitch=9", "--layer=9", "--png") if not it.startswith(name)]
+                    same(self.room.run("stlslice", *needed, f"{name}={value}").status, status, f"status of {name}={value}")

@@ -4,11 +4,12 @@
     reference.py FOLDER
 
 FOLDER gets a page for each crate, with its front page and its public items, their comments and contracts. A second page has
-the crate's definitions, if there are any. Two more pages list all that somebody has to believe who believes a promise: that
-of `run`, and that of `stlslice_mask`. Each name in a contract leads to its definition. All of it comes from the sources, so
-it is never older.
+the crate's definitions, if there are any. More pages list all that somebody has to believe who believes a promise: that of
+`run`, in parts by what a reader came for, and that of `stlslice_mask`. Each name in a contract leads to its definition. All of
+it comes from the sources, so it is never older. Examples are statements that are proved in `proofs/examples`.
 """
 
+import collections
 import html
 import json
 import os
@@ -26,10 +27,39 @@ WORD = re.compile(r"[^\s(){}\[\],;·&<>|]+")
 RUST_WORD = re.compile(r"[A-Za-z_]\w*")
 NEW_LINE = re.compile(r"^\s*(pub |fn |///|#\[|where$|\}|\)|$)")
 
-# The promises whose definitions are listed: the page, its crate, the call and what the page says of it.
+# What has to be believed, a page each: its name and title, its crate, the call or the definitions that it begins with, those that
+# it leaves to other pages, the page that a reader has read before, and what it says in plain words.
+Believed = collections.namedtuple("Believed", "page title crate roots without after said")
 BELIEVED = [
-    ("believe-run", "stlslice", "run", "A run of the program: any task, any source of bytes and any sink."),
-    ("believe-mask", "stlslice_c", "stlslice_mask", "The image of one layer, as a caller in C gets it."),
+    Believed("believe-slice", "a slice as P4", "stlslice", ["run"], ["Reads", "IsFaultOf", "pngs", "report_text", "box_text", "probed"], "",
+             "A run reads facets, checks that they are closed, places a grid and writes one image a layer. The centre of each pixel "
+             "is a point at half a pitch in its cell. The ray from it along x crosses facets, each with the sign of its winding. "
+             "The pixel is 1 exactly if the rule calls the sum inside. If something is wrong, the run ends with one fault and has "
+             "written nothing, unless writing failed."),
+    Believed("believe-text", "how a text reads as facets", "stl_text", ["Text.Reads", "Text.IsFaultOf"], [], "",
+             "A text is ASCII STL if it is some solids, each a name and facets of three corners. Words stand between white space, "
+             "and keywords are read in any case. A number is a decimal, whose exact value is rounded once to a whole micrometre, "
+             "halves away from zero. At most so many facets are read as the limit says. A text that isn't so has exactly one "
+             "fault, at the first word that can't be there."),
+    Believed("believe-png", "PNG", "stlslice", ["SlicedText.pngs"], [], "believe-slice",
+             "A layer as PNG is the signature and three chunks, each with its length and its check sum. Its rows are packed with "
+             "the leftmost pixel in the highest bit, and none is filtered. They are compressed as one block of runs. A reader "
+             "is defined too, after ISO 15948 and RFC 1950 and 1951. It finds exactly the layer's pixels in these bytes."),
+    Believed("believe-box", "box, report and probe", "stlslice", ["Outcome.box_text", "SlicedText.report_text", "Outcome.probed"], [],
+             "believe-slice",
+             "The box is the number of all facets that were read, with the least and greatest coordinates of their corners. "
+             "The report has a line a layer: how many loops its plane has, and how many pixels are filled. "
+             "A loop is a closed cycle of the segments in which the plane cuts facets. Its last line has the sum of the areas. "
+             "The probe tells the signed crossings of one voxel's rays along x and along y."),
+    Believed("believe-words", "words", "task_words", ["read_words"], [], "",
+             "The words are uses of the options of a table, each at most once and with a value that it takes. What is not given "
+             "has its default. The box goes before the probe, the probe before the report, the report before PNGs. If a text is "
+             "wrong or something is missing, the fault is the first in the documented order. If the words ask for help or the "
+             "version, that is told as a refusal."),
+    Believed("believe-mask", "stlslice_mask", "stlslice_c", ["stlslice_mask"], [], "",
+             "This is the image of one layer, as a caller in C gets it. The handle has an opened mesh, or none. With a mesh, the "
+             "image of layer k is put into the buffer, if that is large enough. Else only the size that it needs is put. Any other "
+             "status leaves all of the caller's as it was."),
 ]
 
 
@@ -209,7 +239,16 @@ def section(names, entry, crate):
     mark = names.place(entry).split("#")[1]
     name = mark if entry.path.endswith(".antt") else mark.replace(".", "::")
     return (f'<h3 id="{mark}">{html.escape(name)} <span class="kind">{entry.kind}, {entry.path}:{entry.line}</span></h3>'
-            + prose(names, crate, entry.comment) + code(names, entry) + model(names, entry))
+            + prose(names, crate, entry.comment) + code(names, entry) + model(names, entry) + example(names, entry))
+
+
+def example(names, entry):
+    """The shortest proved statement that begins with a definition."""
+    if not entry.path.endswith(".antt"):
+        return ""
+    found = [it for crate in names.crates.values() for it in crate.examples.get(entry.name, []) if len(it[1]) <= 130]
+    label, said = min(found, key=lambda it: len(it[1]), default=("", ""))
+    return f'<p class="soft">For example, {label}: <code>{html.escape(said)}</code></p>' if said else ""
 
 
 def public_entries(names, crate):
@@ -262,12 +301,12 @@ def cited(names, entry):
     return found, outside
 
 
-def believed(names, root):
-    """All that a promise depends on, each at the place where it is first needed, and the names from outside."""
-    order, outside, waiting = [], {}, [root]
+def believed(names, roots, without):
+    """All that a promise depends on but what is left out, each at the place where it is first needed, and the names from outside."""
+    order, outside, waiting = [], {}, list(reversed(roots))
     while waiting:
         entry = waiting.pop()
-        if entry in order:
+        if entry in order or entry.name in without and entry not in roots:
             continue
         order.append(entry)
         found, beyond = cited(names, entry)
@@ -277,17 +316,29 @@ def believed(names, root):
     return order, outside
 
 
-def believe_page(names, title, crate, name, said):
-    root = names.crates[crate].items[name]
-    order, outside = believed(names, root)
+def roots_of(names, it):
+    """The entries that a page begins with: a call, or definitions by module and name."""
+    crate = names.crates[it.crate]
+    return [crate.definitions[root.split(".")[0]][root.split(".")[1]] if "." in root else crate.items[root] for root in it.roots]
+
+
+def believe_page(names, it):
+    """The page, and how many entries and lines it has."""
+    order, outside = believed(names, roots_of(names, it), it.without)
+    before = next((other for other in BELIEVED if other.page == it.after), None)
+    known = believed(names, roots_of(names, before), before.without)[0] if before else []
+    order = [entry for entry in order if entry not in known]
     count = sum(entry.lines() for entry in order)
-    body = [f"<h1>What you have to believe: <code>{name}</code></h1>",
-            f"<p>{said} The promise comes first, then each definition where it is first needed. There are {len(order)} entries "
-            f"with {count} lines, comments aside.</p>",
-            "<p>That the promise holds is proved. Whether it says what you want, only reading tells.</p>",
-            f'<p class="soft">From outside the repository: {external(outside)}.</p>']
-    body += [section(names, it, names.crates[it.crate]).replace('<h3 id="', f'<h3 id="{it.crate}.', 1) for it in order]
-    return page(f"What you have to believe: {name}", within("\n".join(body))), len(order), count
+    left = [other for other in BELIEVED if {root.split(".")[-1] for root in other.roots} & {*it.without}]
+    body = [f"<h1>What you have to believe: {it.title}</h1>", f"<p>{it.said}</p>",
+            f"<p>The promise comes first, then each definition where it is first needed. There are {len(order)} entries with {count} "
+            "lines, comments aside. That the promise holds is proved. Whether it says what you want, only reading tells.</p>"]
+    for said, others in (("What stands there already is left out here", [before] if before else []), ("On pages of their own", left)):
+        links = ", ".join(f'<a href="{other.page}.html">{other.title}</a>' for other in others)
+        body += [f"<p>{said}: {links}.</p>"] * bool(others)
+    body += [f'<p class="soft">From outside the repository: {external(outside)}.</p>']
+    body += [section(names, entry, names.crates[entry.crate]).replace('<h3 id="', f'<h3 id="{entry.crate}.', 1) for entry in order]
+    return page(f"What you have to believe: {it.title}", within("\n".join(body))), len(order), count
 
 
 def within(text):
@@ -310,8 +361,8 @@ def index_page(names, rows):
     body = ["<h1>The reference of stlslice</h1>",
             "<p>What each crate promises, from its sources. Each name in a contract leads to its definition. "
             "<code>docs/PROVED.md</code> has the promises in short.</p>", "<h2>What you have to believe</h2>", "<ul>"]
-    body += [f'<li><a href="{title}.html"><code>{name}</code></a>: {said} {entries} entries, {count} lines.</li>'
-             for title, name, said, entries, count in rows] + ["</ul>", "<h2>Crates, from the lowest up</h2>", "<table>"]
+    body += [f'<li><a href="{it.page}.html">{it.title}</a>: {entries} entries, {count} lines.</li>' for it, entries, count in rows]
+    body += ["</ul>", "<h2>Crates, from the lowest up</h2>", "<table>"]
     for crate in names.crates.values():
         if crate.public or crate.definitions:
             first = prose(names, crate, crate.front.split("\n\n")[0])
@@ -333,10 +384,10 @@ def search_entries(names):
 def pages(names):
     """Each file of the reference with its text."""
     rows = []
-    for title, crate, name, said in BELIEVED:
-        text, entries, count = believe_page(names, title, crate, name, said)
-        rows.append((title, name, said, entries, count))
-        yield f"{title}.html", text
+    for it in BELIEVED:
+        text, entries, count = believe_page(names, it)
+        rows.append((it, entries, count))
+        yield f"{it.page}.html", text
     for crate in names.crates.values():
         if crate.public or crate.definitions:
             yield f"{crate.name}.html", crate_page(names, crate)

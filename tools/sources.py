@@ -8,10 +8,12 @@ import glob
 import os
 import re
 
-DEFINITION = re.compile(r"^(?:abbrev |unfoldable )?pub (?:record |data )?([^\s:({]+)")
+# a definition begins at the start of a line, or two blanks in if it stands in a module with parameters
+DEFINITION = re.compile(r"^(?:  (?=abbrev |unfoldable ))?(?:abbrev |unfoldable )?pub (?:record |data )?([^\s:({]+)")
 ITEM = re.compile(r'^(\s*)(pub |pub\(crate\) |)(?:const (?=fn)|unsafe |extern "C" )*(fn|struct|enum|trait|const|type) (\w+)')
 TRAIT_IMPL = re.compile(r"^impl(?:<.*?>)? ([\w:]+)(?:<.*?>)? for (\w+)")
 OWN_IMPL = re.compile(r"^impl(?:<.*?>)? (\w+)")
+EXAMPLE = re.compile(r"(?m)^(\w+) : ((?:\w+\.)?([\w-]+) .*[^→\n])\n(?:unfolding .*\n)?\1 =")
 CLAUSE = re.compile(r"^\s*(?:pub )?(?:requires|ensures|decreases|ghost)\b")
 
 
@@ -34,7 +36,7 @@ class Crate:
     def __init__(self, name, below):
         self.name, self.below = name, below
         self.front, self.public = "", []
-        self.definitions, self.heads, self.items = {}, {}, {}
+        self.definitions, self.heads, self.items, self.examples = {}, {}, {}, {}
 
 
 def text_of(path):
@@ -63,6 +65,9 @@ def read_crate(root, name, below):
         crate.heads[module] = "\n".join(line[3:] for line in re.match(r"(?:--.*\n)*", text)[0].splitlines())
     for path in sorted(glob.glob(f"{folder}/src/**/*.rt", recursive=True)):
         read_items(crate, os.path.relpath(path, root), text_of(path))
+    for path in sorted(glob.glob(f"{folder}/proofs/examples/*.antt")):
+        for label, said, name in EXAMPLE.findall(text_of(path)):
+            crate.examples.setdefault(name, []).append((label.replace("_", " "), said))
     front = os.path.join(folder, "src", "lib.rt")
     if os.path.exists(front):
         read_front(crate, text_of(front))
@@ -105,7 +110,7 @@ def definitions(crate, path, text):
             found[named[1]] = Entry(crate.name, kind, named[1], path, at + 1, "\n".join(comment), body, scope)
             at, comment = end, []
         else:
-            comment = comment + [lines[at][3:]] if lines[at].startswith("--") else []
+            comment = comment + [lines[at].strip()[3:]] if lines[at].strip().startswith("--") else []
             at += 1
     return found
 
@@ -118,8 +123,8 @@ def constructors(entry):
 def end_of_definition(lines, at):
     """The line after a definition: the next one begins, or a comment after a blank line."""
     for end in range(at + 1, len(lines)):
-        if DEFINITION.match(lines[end]) or (lines[end].startswith("--") and not lines[end - 1].strip()):
-            while lines[end - 1].startswith("--"):
+        if DEFINITION.match(lines[end]) or (lines[end].strip().startswith("--") and not lines[end - 1].strip()):
+            while lines[end - 1].strip().startswith("--"):
                 end -= 1
             return end
     return len(lines)

@@ -7,6 +7,7 @@ import re
 import shutil
 import signal
 import sys
+import tempfile
 import time
 
 SIGNALS = (signal.SIGHUP, signal.SIGINT, signal.SIGTERM)
@@ -18,12 +19,13 @@ RUNNING = []
 
 
 class Refused(Exception):
-    """What ends a command: its line on standard error, if the program's own isn't there already, and its status."""
+    """What ends a command: what the program said, if anything, the command's own line after it, or None, and the status."""
 
-    def __init__(self, line, status=1):
+    def __init__(self, line, status=1, told=""):
         super().__init__(line)
         self.line = line
         self.status = status
+        self.told = told
 
 
 def shown(text):
@@ -54,7 +56,9 @@ def say(line):
 
 
 def look_at_output(output, part):
-    """Refuses an output that is there and no plain file, or is the part."""
+    """Refuses an output that is there and no plain file, or is the part. The name - is standard output."""
+    if output == "-":
+        return
     if os.path.lexists(output) and (os.path.islink(output) or not os.path.isfile(output)):
         raise Refused(f"{output} is no plain file")
     part = 0 if part == "-" else part  # standard input, as it is open
@@ -85,11 +89,31 @@ def remove(path):
 
 @contextlib.contextmanager
 def whole_file(output):
-    """A file for bytes, made aside. It has the output's name once the block has ended well; otherwise it is removed."""
+    """A file for bytes, made aside. It has the output's name once the block has ended well; otherwise it is removed. With - it is
+    one without a name."""
+    if output == "-":
+        with named("TMPDIR"), named(tempfile.gettempdir()), tempfile.TemporaryFile() as file:
+            yield file
+        return
     with aside(output) as path:
         with named(output), open(path, "xb") as file:
             yield file
         os.replace(path, output)
+
+
+def finish(output, line, file=None):
+    """Writes the last line, when all of the output is made and before it has its name: if the line can't be written, what was
+    there before is left. With - the bytes of the file go to standard output, and then the line to standard error."""
+    if file:
+        file.flush()
+    with named("standard output"):
+        if output != "-":
+            write(sys.stdout, line + "\n")
+            return
+        file.seek(0)
+        shutil.copyfileobj(file, sys.stdout.buffer)
+        write(sys.stdout)
+    tell(line + "\n")
 
 
 @contextlib.contextmanager
@@ -157,6 +181,8 @@ def listen(how):
 
 
 listen(stop)  # while the other modules are read, too
+# It is blocked while Python starts, by the commands' first line, since Python would end with a traceback.
+signal.pthread_sigmask(signal.SIG_UNBLOCK, [signal.SIGINT])
 
 
 def end_of(fault):
@@ -182,6 +208,8 @@ def ended(main):
                 write(sys.stdout)
     except (Refused, MemoryError, OSError) as fault:
         line, status = end_of(fault)
+        Progress.clear()
+        tell(getattr(fault, "told", ""))
         if line:
             say(line)
         sys.exit(status)

@@ -10,12 +10,12 @@ import json
 import os
 import re
 
-from .faults import Progress, Refused, look_at_output, shown, whole_file
+from .faults import Progress, Refused, finish, look_at_output, shown, whole_file
 from .images import head_of, smaller
 from .parts import as_text, opened
 from .program import Program
-from .slicing import in_mm, refuse_unlit
-from .words import Parser, canvas, nonempty, processors, workers
+from .slicing import OF_ONE_VOXEL, as_json, in_mm, refuse_unlit
+from .words import Parser, add_json, canvas, nonempty, processors, workers
 
 LARGEST = 100000  # micrometres
 
@@ -118,7 +118,7 @@ go(Math.floor(last / 2));
 def words():
     parser = Parser(allow_abbrev=False, description="Slices a part into one page of HTML that shows its layers, for any browser.")
     add = parser.add_argument
-    add("part", type=nonempty, help="ASCII or binary STL, or - for standard input; another format, zip and gzip are refused "
+    add("part", type=nonempty, help="ASCII or binary STL, OBJ or 3MF, or - for standard input; another format, zip and gzip are refused "
         "with the command that converts or unpacks them")
     add("output", type=nonempty, help="the page to write, as page.html")
     add("--pitch", type=micrometres, default=50, metavar="N", help="width and depth of a pixel in micrometres (%(default)s)")
@@ -130,6 +130,7 @@ def words():
         help="pixels of a printer's screen, with the part in its middle (without it: the grid that fits the part)")
     add("--title", metavar="TEXT", help="the page's heading (the file's name)")
     add("--workers", type=workers, default=processors(), metavar="N", help="threads of the slicer, 1 to 64 (%(default)s)")
+    add_json(parser)
     add("--program", metavar="PATH", help="the slicer (the stlslice beside this command, else the one on PATH)")
     return parser
 
@@ -144,8 +145,8 @@ class Layers:
     """The layers of a part on a canvas: the images of its box there, each kept once, and for each layer its image and how many
     of its pixels are filled."""
 
-    def __init__(self, given, source):
-        self.given, self.source, self.program = given, source, Program(given)
+    def __init__(self, given, source, unit):
+        self.given, self.source, self.program = given, source, Program(given, unit)
         _, self.low, self.high = self.program.box([source])
         self.size = [high - low for low, high in zip(self.low, self.high)]
         self.count = max(1, -(-self.size[2] // given.layer))
@@ -159,6 +160,7 @@ class Layers:
             return [max(1, -(-size // self.given.pitch)) for size in self.size[:2]], self.low[:2]
         sides = [count * self.given.pitch for count in self.given.canvas]
         if any(size > side for size, side in zip(self.size, sides)):
+            self.program.areas(self.source, OF_ONE_VOXEL, 1)  # an open edge is told first
             raise Refused(f"the part doesn't fit: it is {in_mm(self.size)} mm, the canvas {in_mm(sides)} mm")
         return list(self.given.canvas), [(low + high - side) // 2 for low, high, side in zip(self.low, self.high, sides)]
 
@@ -202,10 +204,13 @@ def page_of(given, layers):
 def main():
     given = words().parse_args()
     look_at_output(given.output, given.part)
-    with whole_file(given.output) as file, opened(given.part) as source:
-        layers = Layers(given, as_text(source))
+    with whole_file(given.output) as file, opened(given) as (source, unit):
+        layers = Layers(given, as_text(source), unit)
         if not layers.volume():
             refuse_unlit(given, layers.size)
         layers.slice()
         size = file.write(page_of(given, layers).encode())
-    print(shown(f"{given.output}: {layers.count} layers, {layers.volume():.3f} ml, {-(-size // 1000)} kB"))
+        line = shown(f"{given.output}: {layers.count} layers, {layers.volume():.3f} ml, {-(-size // 1000)} kB")
+        if given.json:
+            line = as_json(given.output, layers.count, layers.size, layers.volume(), bytes=size)
+        finish(given.output, line, file)

@@ -3,7 +3,7 @@
 import os
 
 from . import words
-from .faults import Refused, aside, named
+from .faults import Refused, aside, finish, named
 from .parts import opened
 from .slicing import Sliced
 
@@ -15,6 +15,8 @@ moved into place when it is whole."""
 def main():
     given = words.read(words.parser(ABOUT, "the folder to make"))
     folder = given.output.rstrip("/") or "/"
+    if folder == "-":
+        raise Refused("a folder can't be standard output; stlslice --png writes all layers there, and ./- is a folder's name")
     if os.path.realpath(folder) == os.path.realpath(os.curdir):
         raise Refused(f"{folder} is the current folder, which can't be made")
     if os.path.lexists(folder) and not (os.path.isdir(folder) and not os.listdir(folder)):
@@ -23,10 +25,10 @@ def main():
         raise Refused(f"{folder} is a link or a mount point, in whose place no folder can be moved")
     with aside(folder) as path:
         os.mkdir(path)
-        with opened(given.part) as source:
-            sliced = Sliced(given, source)
+        with opened(given) as (source, unit):
+            sliced = Sliced(given, source, unit)
             for number, (png, _) in enumerate(sliced.pngs()):
                 with named(folder), open(os.path.join(path, f"{number:05}.png"), "xb") as file:
                     file.write(png)
+        finish(folder, sliced.told(folder))
         os.rename(path, folder)
-    print(sliced.told(folder))

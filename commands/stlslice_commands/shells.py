@@ -4,18 +4,17 @@ import tempfile
 from array import array
 
 from .faults import Refused, named
-from .parts import is_binary
-from .stl import BEGIN, END, KEPT, TEXT, corners_of_binary, corners_of_text, scaled, temporary
+from .stl import (BEGIN, END, FACETS, KEPT, TEXT, corners_of_binary, corners_of_text, facets_of_binary, is_far, rounded,
+                  temporary)
 
-LIMIT = 1_048_576
-LONGEST = 255  # bytes of a number
-REACH = 128_000_000
-MICROMETRES = {"mm": 1000, "cm": 10_000, "m": 1_000_000, "inch": 25_400}
+LIMIT = FACETS
 
 
 def groups(file, unit):
     """Files of at most LIMIT facets, which hold all facets of the part: those of a shell in one file, in their order."""
-    corners_of = corners_of_binary if is_binary(file) else corners_of_text
+    def corners_of(file):
+        return corners_of_text(file, unit) if facets_of_binary(file) is None else corners_of_binary(file)
+
     shell_of = shells(corners_of(file), unit)
     sizes = {}
     for shell in shell_of:
@@ -86,18 +85,8 @@ class Corners:
 
 
 def micrometres(word, unit):
-    """A number of a text in whole micrometres, halves away from zero, as the program rounds it."""
-    if len(word) > LONGEST:
-        raise Refused(f"a number of {len(word):,} bytes is too long: at most {LONGEST} are taken", 3)
-    number, shift = scaled(word)
-    size = abs(number) * MICROMETRES[unit]
-    # beyond these any other number than 0 is too large, and all are nearly 0
-    if shift > 12 or shift < -300:
-        size = size and REACH + 1 if shift > 0 else 0
-    elif shift >= 0:
-        size *= 10 ** shift
-    else:
-        size = (2 * size + 10 ** -shift) // (2 * 10 ** -shift)
-    if size > REACH:
+    """A number in micrometres. One that is out of range is a binary part's: those of a text were looked at when it was read."""
+    number = rounded(word, unit)
+    if is_far(number):
         raise Refused(f"the number {word.decode()} is out of range: a corner lies within 128 m of the origin", 3)
-    return -size if number < 0 else size
+    return number

@@ -8,7 +8,7 @@ import time
 import zipfile
 
 from . import words
-from .faults import Refused, look_at_output, say, shown, whole_file
+from .faults import Refused, finish, look_at_output, say, shown, whole_file
 from .parts import opened
 from .slicing import Sliced
 
@@ -40,11 +40,11 @@ def main():
     fill_in(given)
     now = moment()
     look_at_output(given.output, given.part)
-    with whole_file(given.output) as file, opened(given.part) as source:
-        sliced = Sliced(given, source)
+    with whole_file(given.output) as file, opened(given) as (source, unit):
+        sliced = Sliced(given, source, unit)
         with zipfile.ZipFile(file, "w") as archive:
-            fill(archive, sliced, job_name(given.output), now)
-    print(sliced.told(given.output))
+            duration = fill(archive, sliced, job_name(given.output), now)
+        finish(given.output, sliced.told(given.output, seconds=round(duration, 1)), file)
 
 
 def fill_in(given):
@@ -68,7 +68,7 @@ def moment():
 
 
 def fill(archive, sliced, job, now):
-    """Writes a PNG for each layer, and after them the settings and the profile."""
+    """Writes a PNG for each layer, and after them the settings and the profile. Returns the seconds that the print takes."""
 
     def entry(name, body):
         head = zipfile.ZipInfo(name, min(max(now[:6], (1980, 1, 1, 0, 0, 0)), LATEST))
@@ -80,14 +80,23 @@ def fill(archive, sliced, job, now):
     for number, (png, lit) in enumerate(sliced.pngs()):
         entry(f"{job}{number:05}.png", png)
         slow += 100 * lit > given.area_fill * columns * rows
-    for name, pairs in (("config.ini", settings(sliced, job, slow, now)), ("prusaslicer.ini", profile(given))):
+    seconds = print_time(given, sliced.layers, slow)
+    for name, pairs in (("config.ini", settings(sliced, job, slow, seconds, now)), ("prusaslicer.ini", profile(given))):
         entry(name, "".join(f"{key} = {value}\n" for key, value in sorted(pairs.items())))
+    return seconds
 
 
-def settings(sliced, job, slow, now):
+def print_time(given, layers, slow):
+    """The seconds of all exposures, and of the tilts after them."""
+    exposures = 0.0
+    for number in range(layers):  # one after the other, as the page adds them up: newer Pythons' sum rounds otherwise
+        exposures += exposure_of(number, given)
+    return exposures + given.fast_tilt * (layers - slow) + given.slow_tilt * slow
+
+
+def settings(sliced, job, slow, seconds, now):
     """What stands in config.ini. Without a printer's name it names none, as PrusaSlicer does."""
     given, layers = sliced.given, sliced.layers
-    exposures = sum(exposure_of(number, given) for number in range(layers))
     model = given.printer.model if given.printer else ""
     return {
         "action": "print",
@@ -103,7 +112,7 @@ def settings(sliced, job, slow, now):
         "numFast": layers - slow,
         "numSlow": slow,
         "printProfile": f"{given.layer / 1000:g} mm",
-        "printTime": f"{exposures + given.fast_tilt * (layers - slow) + given.slow_tilt * slow:.6f}",
+        "printTime": f"{seconds:.6f}",
         "printerModel": model,
         "printerProfile": given.printer.name if given.printer else "",
         "printerVariant": "default" if given.printer else "",
@@ -167,5 +176,5 @@ def seconds(text):
 
 def job_name(output):
     """The archive's name without its ending and without what isn't a letter, a digit, `_`, `-` or `.`."""
-    name = re.sub(r"\.sl1s?$", "", os.path.basename(output), flags=re.IGNORECASE)
+    name = re.sub(r"\.sl1s?$|^-$", "", os.path.basename(output), flags=re.IGNORECASE)
     return re.sub(r"[^\w.-]", "_", name) or "part"

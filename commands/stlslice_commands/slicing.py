@@ -6,31 +6,33 @@ so the first row is that of the greatest y, and a pixel inside the part is white
 
 import itertools
 import math
+import re
 from fractions import Fraction
 
 from .faults import Progress, Refused, say, shown
 from .images import head_of, joined
 from .parts import as_text
 from .program import Program
-from .shells import REACH, groups
-from .stl import changed
+from .shells import groups
+from .stl import REACH, changed
 
 # By how much the numbers of a part are multiplied before the program takes them for millimetres.
 TIMES = {"mm": 1, "inch": 1, "cm": 10, "m": 1000}
 LARGEST_PITCH = 100_000
+OF_ONE_VOXEL = ["--pitch", "1000", "--layer", "1000", "--grid=1,1,1,0,0,0"]
 OPEN = 4  # the program's status if a mesh is open
 
 
 class Sliced:
     """A part on a screen: its size in micrometres, how many layers it has, and their images."""
 
-    def __init__(self, given, source):
+    def __init__(self, given, source, unit):
         self.given = given
-        self.program = Program(given)
-        self.texts = groups(source, given.unit) if given.shells else [as_text(source)]
+        self.program = Program(given, unit)
+        self.texts = groups(source, unit) if given.shells else [as_text(source)]
         facets, low, high = self.program.box(self.texts)
-        if TIMES[given.unit] > 1:
-            self.change(facets, 0, [TIMES[given.unit]] * 3)
+        if TIMES[unit] > 1:
+            self.change(facets, 0, [TIMES[unit]] * 3)
             facets, low, high = self.program.box(self.texts)
         self.size = [after - before for before, after in zip(low, high)]
         self.ask_for_unit()
@@ -80,6 +82,7 @@ class Sliced:
         return all(length <= room for length, room in zip(self.size, self.room(quarters)))
 
     def refuse_large(self, usual, more):
+        self.refuse_open()
         screen = f"the {self.given.printer.model}" if self.given.printer else "the canvas"
         line = f"the part doesn't fit: it is {in_mm(self.size)} mm, {screen} {in_mm(self.room(usual))} mm"
         if self.fits(usual + 1 - more):
@@ -96,18 +99,32 @@ class Sliced:
                           "are taken")
 
     def refuse_open(self):
-        """Refuses an open edge before the part's coordinates are changed, so that the line has the part's own."""
-        for text in self.texts:
-            self.program.areas(text, ["--pitch", "1000", "--layer", "1000", "--grid=1,1,1,0,0,0"], 1)
+        """Refuses an open edge before the part's coordinates are changed, so that the line has the part's own, and before the
+        part is found too large."""
+        self.areas_of(OF_ONE_VOXEL, 1)
 
     def areas_by(self, rule):
         """How many pixels of each text's layers are lit by a rule."""
         try:
-            return [self.program.areas(text, [*self.words, "--rule", rule], self.layers) for text in self.texts]
+            return self.areas_of([*self.words, "--rule", rule], self.layers)
         except Refused as fault:
             if fault.status == OPEN and self.times != [1, 1]:
-                say("corners that nearly meet come apart when x and y are multiplied, which this pitch needs; admesh joins them")
+                fault.line = "corners that nearly meet come apart when x and y are multiplied, which this pitch needs; admesh joins them"
             raise
+
+    def areas_of(self, words, layers):
+        """How many pixels of each text's layers are lit. Of open edges the least of all texts is told, as if they were one."""
+        areas, opened = [], []
+        for text in self.texts:
+            try:
+                areas.append(self.program.areas(text, words, layers))
+            except Refused as fault:
+                if fault.status != OPEN:
+                    raise
+                opened.append(fault)
+        if opened:
+            raise min(opened, key=lambda it: [int(word) for word in re.findall(r"-?\d+", it.told)])
+        return areas
 
     def refuse_dark(self):
         """Refuses a part of which no pixel is lit."""
@@ -147,9 +164,20 @@ class Sliced:
         width, depth = self.given.pitch
         return float(pixels * width * depth * self.given.layer / 10 ** 12)
 
-    def told(self, output):
-        """The last line."""
-        return shown(f"{output}: {in_mm(self.size)} mm, {self.millilitres(self.lit):.3f} ml, {self.layers} layers")
+    def told(self, output, **more):
+        """The last line; for `--json` with more than the plain one has."""
+        volume = self.millilitres(self.lit)
+        if self.given.json:
+            return as_json(output, self.layers, self.size, volume, **more)
+        return shown(f"{output}: {in_mm(self.size)} mm, {volume:.3f} ml, {self.layers} layers")
+
+
+def as_json(output, layers, size, volume, **more):
+    """The last line for programs: sizes in millimetres, the volume in millilitres."""
+    import json  # only here, since each start reads what it imports
+
+    sides = [round(length / 1000, 3) for length in size]
+    return json.dumps({"output": output, "layers": layers, "size": sides, "millilitres": round(volume, 6), **more})
 
 
 def refuse_unlit(given, size):

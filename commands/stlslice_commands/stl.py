@@ -14,6 +14,10 @@ BLOCK = 1 << 20
 HEADER, FACET = 84, 50
 BEGIN, END = b"solid part\n", b"endsolid part\n"
 TEXT = b"facet normal 0 0 0\nouter loop\nvertex %b\nvertex %b\nvertex %b\nendloop\nendfacet\n"
+FACETS = 1_048_576  # of a mesh, at most
+LONGEST = 255  # bytes of a number
+REACH = 128_000_000  # micrometres
+MICROMETRES = {"mm": 1000, "cm": 10_000, "m": 1_000_000, "inch": 25_400}
 # Single numbers and corners that were met, each with its text, are forgotten beyond this many.
 KEPT = 1 << 17
 
@@ -81,10 +85,11 @@ def corners_of_binary(file):
             number += 1
 
 
-def corners_of_text(file):
+def corners_of_text(file, unit="mm"):
     """The texts of the three corners of each facet of an ASCII STL. Any other text is refused as the program refuses it, so no
     facet is lost."""
     text, begin, is_inside, solids = b"", 0, False, 0
+    near = 0.99 * REACH / MICROMETRES[unit]
     for more in reads(file, lambda: len(text)):
         text, at = text + more, 0
         while True:
@@ -95,19 +100,21 @@ def corners_of_text(file):
                 break
             if facet:
                 words = facet.groups()
+                if max(map(len, words)) > LONGEST or max(map(abs, map(float, words))) > near:
+                    refuse_unlike(text, at, begin, unit, is_inside, False)
                 yield tuple([b" ".join(words[k:k + 3]) for k in (0, 3, 6)])
             else:
                 solids += not is_inside
                 is_inside = not is_inside
             at = found.end()
         if more or is_inside or not solids or text[at:].strip():
-            refuse_unlike(text, at, begin, is_inside, not more)
+            refuse_unlike(text, at, begin, unit, is_inside, not more)
         text, begin = text[at:], begin + at
 
 
-def refuse_unlike(text, at, begin, is_inside, is_last):
+def refuse_unlike(text, at, begin, unit, is_inside, is_last):
     """Refuses a text if at a place no facet, no solid and no end of one begins, whatever may still be read. The text has `begin`
-    bytes before it. The lines are the program's."""
+    bytes before it. The first word that doesn't fit decides, and the lines are the program's."""
     words = WORD.finditer(text, at)
     for wanted in WORDS if is_inside else ["solid"]:
         found = next(words, None)
@@ -119,8 +126,9 @@ def refuse_unlike(text, at, begin, is_inside, is_last):
         word = found[0].lower()
         if wanted == "facet" and word == b"endsolid":
             return
-        if wanted == "number" and not re.fullmatch(NUMBER, word):
-            raise Refused(f"number at byte {begin + found.start()}: not a number", 3)
+        fault = fault_of_number(word, unit) if wanted == "number" else None
+        if fault:
+            raise Refused(f"number at byte {begin + found.start()}: {fault}", 3)
         if wanted not in (ANY, "number") and word != wanted.encode():
             raise Refused(f"expected {told} at byte {begin + found.start()}", 3)
     if is_last:
@@ -196,6 +204,35 @@ def multiplied(word, by):
         return word
     number, shift = scaled(word)
     return b"%de%d" % (number * by, shift)
+
+
+def fault_of_number(word, unit):
+    """What is wrong with a word as a number, or None."""
+    if len(word) > LONGEST:
+        return "too long"
+    if not re.fullmatch(NUMBER, word):
+        return "not a number"
+    return "out of range" if is_far(rounded(word, unit)) else None
+
+
+def rounded(word, unit):
+    """A number of a text in whole micrometres, halves away from zero, as the program rounds it. One beyond what a corner may
+    have is only so large that it is beyond."""
+    number, shift = scaled(word)
+    size = abs(number) * MICROMETRES[unit]
+    # beyond these any other number than 0 is too large, and all are nearly 0
+    if shift > 12 or shift < -300:
+        size = size and REACH + 1 if shift > 0 else 0
+    elif shift >= 0:
+        size *= 10 ** shift
+    else:
+        size = (2 * size + 10 ** -shift) // (2 * 10 ** -shift)
+    return -size if number < 0 else size
+
+
+def is_far(number):
+    """Whether a corner may not lie so many micrometres from the origin."""
+    return abs(number) > REACH
 
 
 def scaled(word):

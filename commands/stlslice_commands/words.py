@@ -40,8 +40,8 @@ def parser(description, output):
     """A parser of the options that `stlslice-sl1` and `stlslice-pngs` take; `output` is what the second word names."""
     made = Parser(description=description, allow_abbrev=False)
     add = made.add_argument
-    add("part", type=nonempty, help="an STL, ASCII or binary, or - for standard input; another format, zip and gzip are refused "
-        "with the command that converts or unpacks them")
+    add("part", type=nonempty, help="an STL, ASCII or binary, an OBJ or a 3MF, or - for standard input; another format, zip and gzip are "
+        "refused with the command that converts or unpacks them")
     add("output", type=nonempty, help=output)
     add("--printer", action=Listing, metavar="MODEL",
         help="a printer that is known by name: it brings canvas, pitch, mirrors and height; 'help' lists the printers")
@@ -61,8 +61,13 @@ def parser(description, output):
     add("--mirror-y", action="store_true", help="swap top and bottom in each image")
     add("--depth", type=int, default=8, choices=[1, 8], help="bits of a PNG's pixel (%(default)s)")
     add("--workers", type=workers, default=processors(), metavar="N", help="threads of the slicer, 1 to 64 (%(default)s)")
+    add_json(made)
     add("--program", metavar="PATH", help="the slicer (stlslice beside this command, else on PATH)")
     return made
+
+
+def add_json(made):
+    made.add_argument("--json", action="store_true", help="write the last line as JSON")
 
 
 def read(made):

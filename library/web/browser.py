@@ -13,9 +13,12 @@ import time
 
 NAMES = ("chromium", "chromium-browser", "google-chrome")
 FLAGS = ["--headless", "--no-sandbox", "--disable-gpu", "--disable-dev-shm-usage", "--no-first-run", "--disable-extensions",
-         "--disable-background-networking", "--disable-component-update", "--disable-sync", "--hide-scrollbars",
+         "--disable-background-networking", "--disable-component-update", "--disable-sync", "--hide-scrollbars", "--disable-smooth-scrolling",
          "--host-resolver-rules=MAP * ~NOTFOUND", "--remote-debugging-pipe"]
 SECONDS = 120  # for one reply
+# of keys for which the browser itself does something
+NUMBERS = {"Tab": 9, "Enter": 13, " ": 32, "PageUp": 33, "PageDown": 34, "End": 35, "Home": 36, "ArrowLeft": 37, "ArrowUp": 38,
+           "ArrowRight": 39, "ArrowDown": 40}
 
 
 def program():
@@ -102,9 +105,9 @@ class Browser:
                 return got["result"]
             self.events.append(got)
 
-    def open(self, url, size):
-        """Loads a page from nothing in a window of this size."""
-        self.ask("Emulation.setDeviceMetricsOverride", width=size[0], height=size[1], deviceScaleFactor=1, mobile=False)
+    def open(self, url, size, dense=1):
+        """Loads a page from nothing in a window of this size, with so many dots for each of its pixels along a side."""
+        self.ask("Emulation.setDeviceMetricsOverride", width=size[0], height=size[1], deviceScaleFactor=dense, mobile=False)
         self.ask("Page.navigate", url="about:blank")
         self.ask("Page.navigate", url=url)
         self.until("document.readyState === 'complete'")
@@ -132,20 +135,26 @@ class Browser:
                 raise TimeoutError(expression)
             time.sleep(0.02)
 
+    def media(self, **features):
+        """Sets what the page is told of its user's wishes, as prefers_color_scheme="dark"."""
+        told = [{"name": name.replace("_", "-"), "value": value} for name, value in features.items()]
+        self.ask("Emulation.setEmulatedMedia", features=told)
+
     def choose(self, selector, path):
         root = self.ask("DOM.getDocument")["root"]["nodeId"]
         node = self.ask("DOM.querySelector", nodeId=root, selector=selector)["nodeId"]
         self.ask("DOM.setFileInputFiles", nodeId=node, files=[path])
 
-    def drop(self, path, x, y):
+    def drop(self, paths, x, y):
         for kind in ("dragEnter", "dragOver", "drop"):
-            self.ask("Input.dispatchDragEvent", type=kind, x=x, y=y, data={"items": [], "files": [path], "dragOperationsMask": 1})
+            self.ask("Input.dispatchDragEvent", type=kind, x=x, y=y, data={"items": [], "files": paths, "dragOperationsMask": 1})
 
-    def key(self, name, code=None, text=None):
-        """Presses a key and lets it go; `text` is what it writes."""
-        how = {"key": name, "code": code or name, **({"text": text} if text else {})}
+    def key(self, name, code=None, text=None, modifiers=0):
+        """Presses a key and lets it go; `text` is what it writes, and modifiers are 8 for Shift."""
+        number = NUMBERS.get(name, 0)
+        how = {"key": name, "code": code or name, "modifiers": modifiers, "windowsVirtualKeyCode": number, **({"text": text} if text else {})}
         self.ask("Input.dispatchKeyEvent", type="keyDown", **how)
-        self.ask("Input.dispatchKeyEvent", type="keyUp", key=name, code=code or name)
+        self.ask("Input.dispatchKeyEvent", type="keyUp", key=name, code=code or name, modifiers=modifiers, windowsVirtualKeyCode=number)
 
     def mouse(self, kind, x, y, **how):
         self.ask("Input.dispatchMouseEvent", type=kind, x=x, y=y, **how)
@@ -153,6 +162,14 @@ class Browser:
     def click(self, x, y):
         for kind in ("mousePressed", "mouseReleased"):
             self.mouse(kind, x, y, button="left", buttons=1, clickCount=1)
+
+    def swipe(self, begin, end, steps=20):
+        """Moves a finger from a place to another."""
+        self.ask("Input.dispatchTouchEvent", type="touchStart", touchPoints=[{"x": begin[0], "y": begin[1]}])
+        for step in range(1, steps + 1):
+            x, y = (here + (there - here) * step / steps for here, there in zip(begin, end))
+            self.ask("Input.dispatchTouchEvent", type="touchMove", touchPoints=[{"x": x, "y": y}])
+        self.ask("Input.dispatchTouchEvent", type="touchEnd", touchPoints=[])
 
     def place(self, selector):
         """An element's left, top, width and height in the window."""

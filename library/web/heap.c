@@ -13,7 +13,7 @@ struct block {
 };
 
 enum { ALIGNMENT = 16, HEAD = 2 * sizeof(size_t), LEAST = sizeof(block), LISTS = 256, PAGE = 65536, GROWTH = 16 };
-#define MOST ((size_t)4095 << 20) /* the most bytes of the memory, as in library/web/build */
+#define MOST ((size_t)4095 << 20) /* the most bytes of the memory, as in library/build */
 _Static_assert(HEAD == ALIGNMENT && LEAST % ALIGNMENT == 0, "what malloc returns is aligned");
 
 extern unsigned char __heap_base[]; /* the linker's: the first byte that nothing else uses */

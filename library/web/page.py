@@ -13,12 +13,19 @@ import zlib
 
 HERE = os.path.dirname(os.path.abspath(__file__))
 ROOT = os.path.dirname(os.path.dirname(HERE))
+# Scripts, joined in this order; a name that one declares is seen in all of its list.
+ON_PAGE = ["page", "slicer", "settings", "screens", "hints", "view", "plot", "saving", "hands"]
+IN_WORKER = ["worker", "parts", "picture", "zip", "formats"]
 DEMOS = ["helical_gear", "bracket", "supported", "calibration_block"]
 
 
 def text_of(*names):
     with open(os.path.join(*names), encoding="utf-8") as file:
         return file.read()
+
+
+def script_of(names):
+    return "\n".join(['"use strict";', *(text_of(HERE, f"{name}.js") for name in names)])
 
 
 def packed(path):
@@ -63,7 +70,7 @@ def main():
     data = {"modules": [{"bits": bits, "packed": packed(path)} for bits, path in zip((64, 32), modules)],
             "demos": [demo(it) for it in DEMOS], "hints": hints()}
     words = json.dumps(data, ensure_ascii=False, separators=(",", ":")).replace("</", "<\\/")
-    parts = {"STYLE": text_of(HERE, "style.css"), "WORKER": text_of(HERE, "worker.js"), "PAGE": text_of(HERE, "page.js"),
+    parts = {"STYLE": text_of(HERE, "style.css"), "WORKER": script_of(IN_WORKER), "PAGE": script_of(ON_PAGE),
              "DATA": f'<script type="application/json" id="data">{words}</script>'}
     whole = re.sub("@(STYLE|WORKER|PAGE|DATA)@", lambda it: parts[it[1]].rstrip("\n"), text_of(HERE, "preview.html"))
     with open(page, "w", encoding="utf-8") as file:

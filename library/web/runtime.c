@@ -1,28 +1,6 @@
-/* What the compiled library calls in a web page: its allocations, and what LLVM calls by itself. */
+/* What LLVM calls by itself, in a web page. */
 #include <stddef.h>
 #include <stdint.h>
-
-void *malloc(size_t);
-void *realloc(void *, size_t);
-void free(void *);
-
-/* what Rattle's allocating functions return: whether there is a block, and where */
-typedef struct {
-    uint64_t ok;
-    void *p;
-} tried;
-
-static unsigned char nothing[16] __attribute__((aligned(16)));
-
-static tried tried_at(void *p) { return (tried){p != NULL, p ? p : nothing}; }
-
-/* Blocks of n bytes, aligned to a, which divides 16. A block of 0 bytes is a block too. */
-tried rattle_alloc(size_t n, size_t a) { return tried_at(malloc(n ? n : a)); }
-tried rattle_realloc(void *p, size_t kept, size_t n, size_t a) {
-    (void)kept;
-    return tried_at(realloc(p, n ? n : a));
-}
-void rattle_dealloc(void *p) { free(p); }
 
 /* Each of these three is one instruction, memory.copy or memory.fill. */
 void *memcpy(void *to, const void *from, size_t size) {

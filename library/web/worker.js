@@ -1,20 +1,17 @@
-"use strict";
 // The slicer, in a worker: the library as WebAssembly, with one part and its mesh at a time. A message has the name of
 // a call and a number, and the reply has the same number. Calls run one after the other.
 
 const DONE = 0, MEMORY = 6, NO_ROOM = 7, LINE = 256;
-const BINARY = { head: 84, facet: 50, count: 80, corners: [12, 24, 36] };
-const MOST_PIXELS = 1 << 22, MOST_SIDE = 4096; // of the picture that goes to the page
-const EMPTY = [0xf3, 0xf5, 0xf8], FILLED = [0x5b, 0x6b, 0x7e];
-const DOUBLE = new DataView(new ArrayBuffer(8));
-const BITS = 1, UNMIRRORED = 0; // of a PNG
+const STRIPE = 8; // layers
+const FACET_BYTES = 14; // an image of fewer bytes for each facet is drawn sooner in a stripe than one area is found
 
 let library = null; // what the module exports
 let stopped = null; // why no call may be made any more
 let places = null; // the addresses of the calls' small values in the module's memory
-let text = null, is_binary = false;
-let shape = null;
+let shape = null; // of the opened mesh, with what it was opened by
+let known = []; // the areas of its layers, as far as they were found
 const buffers = {}; // those that grow, by name
+const moved = []; // what the reply hands over, so that it is not copied
 
 class Fault extends Error {
     constructor(status, line) {
@@ -69,6 +66,16 @@ function buffer(name, size) {
     return buffers[name] = { at: allocated(size), size };
 }
 
+// What `write` puts into a buffer of this name, which grows until there is room.
+function written(name, write) {
+    for (let room = buffer(name, 1 << 16); ;) {
+        const status = write(big(room.at), big(room.size)), size = size_at(places.size);
+        if (status === DONE) return bytes(room.at, size).slice();
+        if (status !== NO_ROOM) throw fault_of(status);
+        room = buffer(name, size);
+    }
+}
+
 // Takes the first of the modules that this browser compiles. The first has 64-bit addresses, the second, if any, 32.
 async function start({ modules }) {
     let why = new Error("the page has no module that it could run");
@@ -86,14 +93,12 @@ async function start({ modules }) {
 }
 
 // It streams the bytes alone, since WebKit reads no Blob in the worker of a page from disk.
-function unpacked(data) {
-    const packed = new ReadableStream({ start: (it) => { it.enqueue(data); it.close(); } });
-    return new Response(packed.pipeThrough(new DecompressionStream("deflate"))).arrayBuffer();
-}
+const streamed = (data) => new ReadableStream({ start: (it) => { it.enqueue(data); it.close(); } });
+const unpacked = (data) => new Response(streamed(data).pipeThrough(new DecompressionStream("deflate"))).arrayBuffer();
 
 // Options have 44 bytes, a mesh 16, a shape or corners at most 56; then come a line and three numbers.
 function small_places() {
-    const sizes = { options: 48, mesh: 16, shape: 56, line: LINE, size: 8, count: 8, area: 8 };
+    const sizes = { options: 48, mesh: 16, other: 16, shape: 56, line: LINE, size: 8, count: 8, area: 8 };
     const total = Object.values(sizes).reduce((sum, size) => sum + size, 0);
     const found = {};
     let at = Number(library.malloc(big(total)));
@@ -105,108 +110,45 @@ function small_places() {
     return found;
 }
 
-// Takes the bytes of a part. A binary STL is written as a text, a facet on each line after the first.
-function read({ all }) {
-    const file = new DataView(all), size = file.byteLength;
-    const count = size < BINARY.head ? 0 : file.getUint32(BINARY.count, true);
-    is_binary = size >= BINARY.head && size === BINARY.head + BINARY.facet * count;
-    text = is_binary ? as_text(file, count) : new Uint8Array(all);
-    return { is_binary };
-}
-
-function as_text(file, count) {
-    const encoder = new TextEncoder(), word = words_of_floats(), parts = [encoder.encode("solid binary\n")];
-    const corner = (at) => `vertex ${[0, 4, 8].map((it) => word(file.getFloat32(at + it, true))).join(" ")}`;
-    for (let facet = 0; facet < count;) {
-        let lines = "";
-        for (const end = Math.min(count, facet + 4096); facet < end; facet++) {
-            const at = BINARY.head + BINARY.facet * facet;
-            lines += `facet normal 0 0 0 outer loop ${BINARY.corners.map((it) => corner(at + it)).join(" ")} endloop endfacet\n`;
-        }
-        parts.push(encoder.encode(lines));
-    }
-    return joined([...parts, encoder.encode("endsolid binary\n")]);
-}
-
-// A function from numbers to their words, which it keeps for a while: several facets share a corner.
-function words_of_floats() {
-    const kept = new Map();
-    return (number) => {
-        if (kept.size > 1 << 18) kept.clear();
-        if (!kept.has(number)) kept.set(number, shortest(number));
-        return kept.get(number);
-    };
-}
-
-// The shortest decimal that reads back as the same number of single precision. Nine digits always do, and up to six are
-// tried at once. A decimal that double precision takes for the middle between two numbers is passed over.
-function shortest(number) {
-    for (let digits = 6; digits < 9; digits++) {
-        const word = number.toPrecision(digits);
-        if (Math.fround(word) === number && !is_midway(Number(word))) return String(Number(word));
-    }
-    return number.toPrecision(9);
-}
-
-function is_midway(number) {
-    DOUBLE.setFloat64(0, number);
-    return (DOUBLE.getUint32(4) & 0x1fffffff) === 0x10000000;
-}
-
-function joined(parts) {
-    const all = new Uint8Array(parts.reduce((sum, it) => sum + it.length, 0));
-    let at = 0;
-    for (const part of parts) {
-        all.set(part, at);
-        at += part.length;
-    }
-    return all;
-}
-
 // Opens the part's mesh: in the grid that fits it, in a given one, or on a canvas with the part in the middle.
 function open({ pitch, layer, rule, unit, canvas, grid }) {
-    const at = allocated(text.length);
+    if (UNITS.powers[unit]) with_text(0, (at, size) => box(at, size, 0)); // a fault names a byte of the file as it is
+    return with_text(unit, (at, size, unit) => {
+        const given = grid ?? (canvas ? centred(canvas, box(at, size, unit), pitch, layer) : null);
+        const began = performance.now();
+        open_text(at, size, { pitch, layer, rule, unit }, given, places.mesh);
+        shape = { ...shape_told(), pitch, layer, unit, rule };
+        known = [];
+        return { ...shape, grid: given, took: performance.now() - began, memory: library.memory.buffer.byteLength };
+    });
+}
+
+// Calls a task with the address, the size and the library's unit of the part's text, which is in its memory meanwhile.
+function with_text(unit, task) {
+    const { text, known_unit } = text_in(unit), at = allocated(text.length);
     try {
         bytes(at, text.length).set(text);
-        const given = grid ?? (canvas ? centred(canvas, box(at, unit), pitch, layer) : null);
-        const began = performance.now();
-        open_text(at, { pitch, layer, rule, unit }, given);
-        shape = { ...shape_told(), pitch };
-        return { ...shape, grid: given, took: performance.now() - began, memory: library.memory.buffer.byteLength };
+        return task(at, text.length, known_unit);
+    } catch (fault) {
+        throw placed(fault, text);
     } finally {
         free(at);
     }
 }
 
-function open_text(at, { pitch, layer, rule, unit }, grid) {
+function open_text(at, size, { pitch, layer, rule, unit }, grid, mesh) {
     const numbers = [pitch, layer, rule, unit, grid ? 1 : 0, ...(grid ?? [0, 0, 0, 0, 0, 0])], options = view();
     numbers.forEach((it, i) => options.setInt32(places.options + 4 * i, it, true));
-    told_of_text(ask("stlslice_open", big(at), big(text.length), big(places.options), big(places.mesh), big(places.shape),
-        big(places.line), big(LINE)));
+    told(ask("stlslice_open", big(at), big(size), big(places.options), big(mesh), big(places.shape), big(places.line), big(LINE)));
 }
 
-function box(at, unit) {
-    told_of_text(ask("stlslice_box", big(at), big(text.length), unit, big(places.shape), big(places.line), big(LINE)));
+function box(at, size, unit) {
+    told(ask("stlslice_box", big(at), big(size), unit, big(places.shape), big(places.line), big(LINE)));
     return corners_told();
 }
 
-// A fault at a byte of the text gets its place: a line with its words, or a facet of a binary file.
-function told_of_text(status) {
-    if (status === DONE) return;
-    const fault = new Fault(status, line_told()), named = /\bat byte (\d+)/.exec(fault.message);
-    if (named) fault.place = place_of(Number(named[1]));
-    throw fault;
-}
-
-function place_of(byte) {
-    let line = 1, start = 0;
-    for (let at = text.indexOf(10); at >= 0 && at < byte; at = text.indexOf(10, start)) {
-        line++;
-        start = at + 1;
-    }
-    if (is_binary) return `Facet ${line - 1} of the file, counted from 1, as the page wrote it as text.`;
-    const end = text.indexOf(10, start), words = text.subarray(start, Math.min(end < 0 ? text.length : end, start + 80));
-    return `Line ${line}: ${new TextDecoder().decode(words).replace(/[^ -~]/g, "\ufffd").trim()}`;
+function told(status) {
+    if (status !== DONE) throw new Fault(status, line_told());
 }
 
 function corners_told() {
@@ -230,13 +172,13 @@ function centred([columns, rows], { facets, low, high }, pitch, layer) {
 }
 
 const row_bytes = () => shape.columns + 7 >> 3;
+const image_bytes = () => row_bytes() * shape.rows;
 
 // The layer's image: its rows, without the words before them.
 function bits_of(k) {
-    const room = buffer("image", 16 + row_bytes() * shape.rows);
+    const room = buffer("image", 16 + image_bytes());
     must(ask("stlslice_mask", big(places.mesh), k, big(room.at), big(room.size), big(places.size)));
-    const size = size_at(places.size);
-    return bytes(room.at, size).slice(size - row_bytes() * shape.rows);
+    return bytes(room.at + size_at(places.size) - image_bytes(), image_bytes()).slice();
 }
 
 function area_of(k) {
@@ -244,11 +186,48 @@ function area_of(k) {
     return size_at(places.area);
 }
 
-// The areas of the layers from one on, as many as are found in about this time.
-function areas({ from, milliseconds }) {
-    const end = performance.now() + milliseconds, found = [];
-    for (let k = from; k < shape.layers && (!found.length || performance.now() < end); k++) found.push(area_of(k));
+// The areas of a mesh's layers from the first of a stripe on, as many as are found in about this time.
+function areas_from(mesh, from, milliseconds) {
+    const end = performance.now() + milliseconds, found = [], by_stripes = image_bytes() < FACET_BYTES * shape.facets;
+    while (from + found.length < shape.layers && (!found.length || performance.now() < end)) {
+        if (by_stripes) found.push(...areas_of_stripe(mesh, (from + found.length) / STRIPE));
+        else {
+            must(ask("stlslice_area", big(mesh), from + found.length, big(places.area)));
+            found.push(size_at(places.area));
+        }
+    }
     return found;
+}
+
+function areas_of_stripe(mesh, stripe) {
+    const layers = Math.min(STRIPE, shape.layers - STRIPE * stripe), room = buffer("stripe", STRIPE * (16 + image_bytes()));
+    must(ask("stlslice_stripe", big(mesh), big(stripe), big(room.at), big(room.size), big(places.size)));
+    const each = size_at(places.size) / layers, head = each - image_bytes();
+    return Array.from({ length: layers }, (_, k) => filled_in(bytes(room.at + k * each + head, image_bytes())));
+}
+
+function areas({ from, milliseconds }) {
+    const found = areas_from(places.mesh, from, milliseconds);
+    found.forEach((area, k) => { known[from + k] = area; });
+    return found;
+}
+
+// The areas by another rule, of the same text in the same grid. It is a mesh of its own, opened for the first of them.
+function other_areas({ from, milliseconds, rule }) {
+    const { columns, rows, layers, origin, unit } = shape;
+    if (!from) with_text(unit, (at, size, unit) => open_text(at, size, { ...shape, rule, unit }, [columns, rows, layers, ...origin], places.other));
+    try {
+        const found = areas_from(places.other, from, milliseconds);
+        if (from + found.length === layers) close_other();
+        return found;
+    } catch (fault) {
+        close_other();
+        throw fault;
+    }
+}
+
+function close_other() {
+    if (!stopped) ask("stlslice_close", big(places.other));
 }
 
 // The layer's loops: the coordinates of all points in half-micrometres, and for each loop the number of points up to its end.
@@ -266,78 +245,31 @@ function loops_of(k) {
 
 const numbers_at = (at, count) => Float64Array.from(new BigInt64Array(library.memory.buffer, at, count), Number);
 
-// The loops in pixels of the image, and for each whether it is a rim, which turns left round the part, or a hole.
-function outlines_of({ points, ends }) {
-    const { origin, rows, pitch } = shape, placed = new Float64Array(points.length), rims = [];
-    for (let i = 0; i < points.length; i += 2) {
-        placed[i] = (points[i] / 2 - origin[0]) / pitch;
-        placed[i + 1] = rows - (points[i + 1] / 2 - origin[1]) / pitch;
-    }
-    ends.forEach((end, loop) => rims.push(turn_of(points, loop ? ends[loop - 1] : 0, end) >= 0));
-    return { points: placed, ends, rims };
+// What the page shows of one layer: a picture whose pixels stand for squares of this side, or of a larger one. If that is
+// smaller than the image, it comes with the image's bits.
+async function layer({ k, side: wanted, colours }) {
+    const bits = bits_of(k), loops = loops_of(k), side = Math.max(wanted, shrinking(shape)), outlines = outlines_of(loops);
+    const picture = await createImageBitmap(picture_of(bits, shape, side, colours));
+    known[k] = filled_in(bits);
+    moved.push(picture, bits.buffer, outlines.points.buffer, outlines.ends.buffer);
+    return { k, area: known[k], loops: loops.ends.length, outlines, side, picture, bits: side > 1 ? bits : null };
 }
 
-// Twice the area that the points from one to another enclose, seen from the first of them.
-function turn_of(points, begin, end) {
-    const x = (it) => points[2 * it] - points[2 * begin], y = (it) => points[2 * it + 1] - points[2 * begin + 1];
-    let turn = 0;
-    for (let it = begin + 1; it + 1 < end; it++) turn += x(it) * y(it + 1) - x(it + 1) * y(it);
-    return turn;
-}
+// The layer's image as a PNG of the library's, white inside the part.
+const png_of = (k, depth, mirrors) => written("png", (at, room) =>
+    ask("stlslice_png", big(places.mesh), k, depth, mirrors, at, room, big(places.size)));
+const png = ({ k }) => new Blob([png_of(k, 1, 0)], { type: "image/png" });
 
-// What the page shows of one layer. A picture that is smaller than the image comes with the image's bits.
-async function layer({ k }) {
-    const began = performance.now(), bits = bits_of(k), took = performance.now() - began;
-    const area = area_of(k), loops = loops_of(k), side = shrinking();
-    const told = { k, area, loops: loops.ends.length, outlines: outlines_of(loops), took, side };
-    told.bits = side > 1 ? bits : null;
-    told.picture = await createImageBitmap(picture_of(bits, side));
-    return told;
-}
-
-// The number of the image's pixels along a side of a pixel of the picture.
-function shrinking() {
-    const { columns, rows } = shape;
-    return Math.max(1, Math.ceil(Math.sqrt(columns * rows / MOST_PIXELS)), Math.ceil(Math.max(columns, rows) / MOST_SIDE));
-}
-
-function picture_of(bits, side) {
-    const width = Math.ceil(shape.columns / side), height = Math.ceil(shape.rows / side);
-    const shades = Uint32Array.from({ length: side * side + 1 }, (_, filled) => shade(filled / (side * side)));
-    const counts = new Uint32Array(width * height), stride = row_bytes();
-    for (let at = 0; at < bits.length; at++) {
-        const row = Math.floor(at / stride), first = 8 * (at - row * stride), to = width * Math.floor(row / side);
-        for (let byte = bits[at], i = first; byte; byte = byte << 1 & 255, i++)
-            if (byte & 128) counts[to + Math.floor(i / side)]++;
-    }
-    const picture = new ImageData(width, height);
-    new Uint32Array(picture.data.buffer).set(counts.map((it) => shades[it]));
-    return picture;
-}
-
-function shade(part) {
-    const [red, green, blue] = EMPTY.map((it, i) => Math.round(it + (FILLED[i] - it) * part));
-    return (255 << 24 | blue << 16 | green << 8 | red) >>> 0;
-}
-
-// The layer's image as a PNG of the library's, with a bit for each pixel, white inside the part.
-function png({ k }) {
-    for (let room = buffer("png", 1 << 16); ;) {
-        const status = ask("stlslice_png", big(places.mesh), k, BITS, UNMIRRORED, big(room.at), big(room.size), big(places.size));
-        const size = size_at(places.size);
-        if (status === DONE) return new Blob([bytes(room.at, size).slice()], { type: "image/png" });
-        if (status !== NO_ROOM) throw fault_of(status);
-        room = buffer("png", size);
-    }
-}
-
-const calls = { start, read, open, layer, areas, png };
+const calls = { start, read, open, layer, areas, other_areas, png, begin_zip, add_layers, whole_zip };
 
 async function answer({ id, call, value }) {
+    moved.length = 0;
     try {
-        postMessage({ id, value: await calls[call](value) });
+        const found = await calls[call](value);
+        postMessage({ id, value: found }, moved);
     } catch (error) {
-        postMessage({ id, fault: { status: error.status ?? null, line: error.message, place: error.place, stopped: !!stopped } });
+        const { status = null, message: line, place, telling } = error;
+        postMessage({ id, fault: { status, line, place, telling, stopped: !!stopped } });
     }
 }
 

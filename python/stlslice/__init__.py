@@ -117,8 +117,9 @@ class _Handle(ctypes.Structure):
 
 
 def _library() -> ctypes.CDLL:
-    beside = os.path.join(os.path.dirname(os.path.abspath(__file__)), "libstlslice.so.1")
-    named = os.environ.get("STLSLICE_LIBRARY") or (beside if os.path.exists(beside) else "libstlslice.so.1")
+    name = "stlslice.dll" if os.name == "nt" else "libstlslice.so.1"
+    beside = os.path.join(os.path.dirname(os.path.abspath(__file__)), name)
+    named = os.environ.get("STLSLICE_LIBRARY") or (beside if os.path.exists(beside) else name)
     try:
         library = ctypes.CDLL(named)
     except OSError as fault:
@@ -160,18 +161,16 @@ def _raise(status: int, line: Optional[ctypes.Array[ctypes.c_char]] = None) -> N
 
 
 def _text(source: Source) -> bytes:
-    """The bytes of a file, of an open file, or of what holds them already."""
-    if isinstance(source, bytes):
-        return source
-    if isinstance(source, (bytearray, memoryview)):
-        return bytes(source)
+    """The bytes of a file, of an open file, or of what holds them already. They are of the type `bytes` itself: one made of it
+    may tell another length than it has."""
     if hasattr(source, "read"):
-        read = source.read()
-        if not isinstance(read, bytes):
+        source = source.read()
+        if not isinstance(source, bytes):
             raise TypeError("open the file in binary mode")
-        return read
-    with builtins.open(os.fspath(source), "rb") as file:
-        return file.read()
+    elif not isinstance(source, (bytes, bytearray, memoryview)):
+        with builtins.open(os.fspath(source), "rb") as file:
+            source = file.read()
+    return source if type(source) is bytes else memoryview(source).tobytes()
 
 
 def _whole(name: str, value: Any, kind: str = "whole numbers") -> int:
@@ -207,6 +206,7 @@ def _numpy() -> Any:
 def _rows(name: str, values: Any, of_numbers: str) -> Any:
     """Rows of three numbers, as an array of numpy; as a list of all numbers if numpy is missing, or has no type for them."""
     numpy = _numpy()
+    _refuse_masked(name, values, numpy)
     try:
         found = None if numpy is None else numpy.asarray(values)
     except ValueError:
@@ -225,6 +225,16 @@ def _rows(name: str, values: Any, of_numbers: str) -> Any:
     if found.size % 3 or (found.ndim > 1 and found.shape[1:] != (3,)):
         raise RangeFault(OUT_OF_RANGE, f"{name} takes three numbers a row")
     return found.reshape(-1, 3)
+
+
+def _refuse_masked(name: str, values: Any, numpy: Any) -> None:
+    """Refuses an array of numpy, or rows that are such arrays, of which a number is masked: it stands for a missing one."""
+    if numpy is None:
+        return
+    kind = numpy.ma.MaskedArray
+    rows = values if isinstance(values, (list, tuple)) else [values]
+    if any(isinstance(row, kind) and numpy.ma.is_masked(row) for row in rows):
+        raise RangeFault(OUT_OF_RANGE, f"{name} has masked numbers")
 
 
 def _points(values: Triples) -> Tuple[Any, Any, int]:

@@ -2,3 +2,4 @@ pub mod Setup
 pub mod Session
 pub mod Answers
 pub mod SessionReader
+pub mod SessionFault

@@ -1,14 +1,16 @@
 //! Why there is no session, or no answer of one.
-ghost use Rattle.std.specs.Prelude.{◌≡◌, ◌≢◌};
+ghost use Rattle.std.specs.Prelude.{◌≡◌, ◌≢◌, Some};
 ghost use Rattle.mesh_arrays.specs.declared.array_fault.ArrayFault.TheVariants as array_fault;
 ghost use Rattle.mesh_weld.specs.declared.weld_fault.WeldFault.TheVariants as weld_fault;
 ghost use Rattle.stl_text.specs.declared.stl_fault.StlFault.TheVariants as stl_fault;
+ghost use Rattle.layer_session.specs.SessionFault.{session_fault_text};
 ghost use Rattle.layer_session.specs.declared.session_fault.SessionFault.TheVariants.{Arrays, Grid, Memory, Stl, Weld};
 
 use mesh_arrays::ArrayFault;
 use mesh_weld::WeldFault;
 use raster::GridFault;
 use std::alloc::AllocError;
+use std::fmt::{self, Display, Formatter, Write};
 use stl_text::StlFault;
 use thiserror::Error;
 
@@ -18,30 +20,48 @@ use thiserror::Error;
 #[derive(Clone, Copy, Debug, PartialEq, Eq, Error)]
 pub enum SessionFault {
     /// Pitch or layer height is out of range.
-    #[error("pitch and layer height take 1 to 100000 micrometres")]
     Step,
     /// The text does not read as facets. It is not `StlFault::Memory`.
-    #[error("{0}")]
     Stl(StlFault),
     /// The arrays are no facets. It is not `ArrayFault::Memory`.
-    #[error("{0}")]
     Arrays(ArrayFault),
     /// The mesh is not closed. It is not `WeldFault::Memory`.
-    #[error("{0}")]
     Weld(WeldFault),
     /// There is no grid.
-    #[error("{0}")]
     Grid(GridFault),
     /// An allocation failed.
-    #[error("out of memory")]
     Memory,
     /// The layer, the stripe or the voxel is not in the grid, which has these counts.
-    #[error("voxel outside the grid: {columns} columns, {rows} rows, {layers} layers")]
     Outside {
         columns: u32,
         rows: u32,
         layers: u32,
     },
+}
+
+impl Display for SessionFault {
+    ghost output = { λ fault. Some (session_fault_text fault) };
+
+    fn fmt<W: Write>(&self, f: &mut Formatter<W>) -> fmt::Result {
+        match self {
+            SessionFault::Step => {
+                f.write_str("pitch and layer height take 1 to 100000 micrometres")
+            }
+            SessionFault::Stl(cause) => cause.fmt(f),
+            SessionFault::Arrays(cause) => cause.fmt(f),
+            SessionFault::Weld(cause) => cause.fmt(f),
+            SessionFault::Grid(cause) => cause.fmt(f),
+            SessionFault::Memory => f.write_str("out of memory"),
+            SessionFault::Outside {
+                columns,
+                rows,
+                layers,
+            } => write!(
+                f,
+                "voxel outside the grid: {columns} columns, {rows} rows, {layers} layers"
+            ),
+        }
+    }
 }
 
 impl From<AllocError> for SessionFault {

@@ -14,3 +14,4 @@ pub mod Grouping
 pub mod Welding
 pub mod Probing
 pub mod Laws
+pub mod WeldFault

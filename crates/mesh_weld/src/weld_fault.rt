@@ -1,9 +1,11 @@
 //! Why welding fails.
-ghost use Rattle.std.specs.Prelude.{◌≡◌};
+ghost use Rattle.std.specs.Prelude.{◌≡◌, Some};
+ghost use Rattle.mesh_weld.specs.WeldFault.{weld_fault_text};
 ghost use Rattle.mesh_weld.specs.declared.weld_fault.WeldFault.TheVariants as weld_fault;
 
 use geometry::Point;
 use std::alloc::AllocError;
+use std::fmt::{self, Display, Formatter, Write};
 use thiserror::Error;
 
 /// Why facets are no solid.
@@ -11,7 +13,6 @@ use thiserror::Error;
 pub enum WeldFault {
     /// The least pair of points, `from` before `to`, between which the half-edges there and back differ in number. The points
     /// are in micrometres. Over all facets, `there` half-edges run from `from` to `to`, and `back` half-edges run back.
-    #[error("open edge {from} to {to} there {there} back {back}")]
     Open {
         from: Point,
         to: Point,
@@ -19,8 +20,23 @@ pub enum WeldFault {
         back: u32,
     },
     /// An allocation failed.
-    #[error("out of memory")]
     Memory,
+}
+
+impl Display for WeldFault {
+    ghost output = { λ fault. Some (weld_fault_text fault) };
+
+    fn fmt<W: Write>(&self, f: &mut Formatter<W>) -> fmt::Result {
+        match self {
+            WeldFault::Open {
+                from,
+                to,
+                there,
+                back,
+            } => write!(f, "open edge {from} to {to} there {there} back {back}"),
+            WeldFault::Memory => f.write_str("out of memory"),
+        }
+    }
 }
 
 impl From<AllocError> for WeldFault {

@@ -1,3 +1,4 @@
 pub mod Numeral
 pub mod Micrometres
 pub mod Scan
+pub mod NumFault

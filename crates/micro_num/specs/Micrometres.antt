@@ -1,4 +1,5 @@
 -- The value of a number, in whole micrometres.
+-- - `nearest n d`: n / d as the nearest whole number, halves upward
 -- - `magnitude m s`: m times ten to the power s, as the nearest whole number, halves upward
 -- - `micro unit n`: the value of a number in a unit, in micrometres
 -- - `coordinate_of unit word`: the coordinate that a word stands for, or its fault
@@ -25,9 +26,13 @@ abbrev pub exponent_value : Option Exponent → ℤ
 exponent_value None = pos 0
 exponent_value (Some e) = with_sign e.sign (digits_value e.digits)
 
+-- n / d as the nearest whole number, halves upward
+abbrev pub nearest : ℕ → ℕ → ℕ
+nearest n d = (2 * n + d) / (2 * d)
+
 -- m divided by ten to the power k, as the nearest whole number, halves upward
 abbrev pub rounded_quotient : ℕ → ℕ → ℕ
-rounded_quotient m k = (2 * m + 10 ^ k) / (2 * 10 ^ k)
+rounded_quotient m k = nearest m (10 ^ k)
 
 -- m times ten to the power s, as the nearest whole number, halves upward
 unfoldable pub magnitude : ℕ → ℤ → ℕ

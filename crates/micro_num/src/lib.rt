@@ -2,6 +2,7 @@
 //!
 //! - [`read_micro`]: the coordinate that a word stands for, or a [`NumFault`].
 //! - [`read_front`]: the same for a word at the front of a longer text, with the length of the word.
+//! - [`signed_coordinate`]: the coordinate of a magnitude and a sign, if it is in range.
 //! - [`Unit`]: the unit of the text's numbers, millimetres or inches.
 //! - [`WORD_LIMIT`]: the greatest length of a number's text, in bytes.
 //! - [`one_spelling`]: the law that a number's text and its parts determine each other.
@@ -34,4 +35,5 @@ pub use laws::one_spelling;
 pub use limits::WORD_LIMIT;
 pub use num_fault::NumFault;
 pub use reading::{read_front, read_micro};
+pub use scaling::signed_coordinate;
 pub use unit::Unit;

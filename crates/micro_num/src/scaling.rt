@@ -131,9 +131,9 @@ pub(crate) fn magnitude_in(mantissa: &Mantissa<'_>, exponent: i64, unit: Unit) -
     scaled(in_unit(mantissa, unit), power)
 }
 
-/// The coordinate of a magnitude in micrometres with a sign, or `None` if it is out of range.
+/// The coordinate of a magnitude in micrometres with a sign, or `None` if the magnitude is above `COORDINATE_LIMIT`.
 #[inline(always)]
-pub(crate) fn signed_coordinate(negative: bool, magnitude: u64) -> Option<i32>
+pub fn signed_coordinate(negative: bool, magnitude: u64) -> Option<i32>
     ensures in_range { MatchOption result (COORDINATE_LIMIT < magnitude) (λ _. magnitude ≤ COORDINATE_LIMIT) }
     ensures value { IfSome result (λ z. z ≡ (if negative then neg_ℤ (pos magnitude) else pos magnitude)) }
 {

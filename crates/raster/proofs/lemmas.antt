@@ -23,3 +23,4 @@ pub mod Images
 pub mod OddMarks
 pub mod FreeRoom
 pub mod DrawnRoom
+pub mod Streams

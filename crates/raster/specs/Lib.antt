@@ -4,6 +4,7 @@ pub mod Rule
 pub mod Span
 pub mod Filler
 pub mod Image
+pub mod Stream
 pub mod ImageWriter
 pub mod Page
 pub mod Bits
@@ -12,3 +13,4 @@ pub mod RowCrossing
 pub mod Crossings
 pub mod RowSpans
 pub mod ColumnSums
+pub mod GridFault

@@ -1,5 +1,6 @@
 //! The voxels that a mesh is sliced into: their number, and their centres.
 ghost use Rattle.std.specs.Prelude.{◌≡◌, ◌<◌, ◌≤◌, ◌≤ℤ◌, Some, ◌-◌, int_lt, pos};
+ghost use Rattle.raster.specs.GridFault.{grid_fault_text};
 ghost use Rattle.exact_int.specs.Bounds.{IsAtMost};
 ghost use Rattle.geometry.specs.BoundingBox.{IsBox};
 ghost use Rattle.geometry.specs.Limits.{IsStep};
@@ -10,6 +11,7 @@ use exact_cut::{Centre, Lattice};
 use geometry::{CENTRE_LIMIT, COLUMN_LIMIT, LAYER_LIMIT, Point};
 use mesh_weld::Solid;
 use std::alloc::Allocator;
+use std::fmt::{self, Display, Formatter, Write};
 use std::marker::Model;
 use thiserror::Error;
 
@@ -17,22 +19,38 @@ use thiserror::Error;
 #[derive(Clone, Copy, Debug, PartialEq, Eq, Error)]
 pub enum GridFault {
     /// The mesh that the grid is to fit has no facet with three distinct corners.
-    #[error("no facet is left")]
     EmptyMesh,
     /// There are more than `COLUMN_LIMIT` columns or rows, or more than `LAYER_LIMIT` layers. These are all three counts of the
     /// grid that was asked for.
-    #[error("grid too large: {columns} columns, {rows} rows, {layers} layers")]
     TooLarge {
         columns: u32,
         rows: u32,
         layers: u32,
     },
     /// A count of a given grid is 0.
-    #[error("grid has no cells")]
     NoCells,
     /// The centre of the last column, row or layer of a given grid lies more than `CENTRE_LIMIT` half-micrometres from 0.
-    #[error("grid reaches too far")]
     FarCentre,
+}
+
+impl Display for GridFault {
+    ghost output = { λ fault. Some (grid_fault_text fault) };
+
+    fn fmt<W: Write>(&self, f: &mut Formatter<W>) -> fmt::Result {
+        match self {
+            GridFault::EmptyMesh => f.write_str("no facet is left"),
+            GridFault::TooLarge {
+                columns,
+                rows,
+                layers,
+            } => write!(
+                f,
+                "grid too large: {columns} columns, {rows} rows, {layers} layers"
+            ),
+            GridFault::NoCells => f.write_str("grid has no cells"),
+            GridFault::FarCentre => f.write_str("grid reaches too far"),
+        }
+    }
 }
 
 /// The voxels that a mesh is sliced into: columns along x, rows along y and layers along z, from an origin on. Lengths are in

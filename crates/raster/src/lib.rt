@@ -12,6 +12,7 @@
 //! - [`Grid`]: the voxels that a mesh is sliced into; [`GridFault`] says why there is none.
 //! - [`Placing`]: whether a grid fits the mesh, or is given by its place and counts.
 //! - [`hold_grid_laws`]: states when given parts are a grid, and how many cells cover a mesh.
+//! - [`a_stream_of_images_is_cut_in_one_way`]: a law of images one behind another.
 //! - [`Rule`]: which sums of signed crossings count as inside.
 //! - [`Span`]: filled pixels side by side in a row; [`area`]: the number of pixels in a layer's spans.
 //! - [`Filler`]: fills one layer after another, and keeps its memory; [`fill`] fills one.
@@ -39,7 +40,7 @@ mod span;
 pub use devices::{Counted, Failed, Failures, Sink, Source, WriteFault, put_all};
 pub use filler::{Filler, fill};
 pub use grid::{Grid, GridFault};
-pub use laws::hold_grid_laws;
+pub use laws::{a_stream_of_images_is_cut_in_one_way, hold_grid_laws};
 pub use pbm::{ImageWriter, Page, image_len, write_layer};
 pub use placing::Placing;
 pub use rule::Rule;

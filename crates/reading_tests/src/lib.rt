@@ -3,6 +3,8 @@
 #![tactic(auto)]
 
 #[cfg(test)]
+mod binary_files;
+#[cfg(test)]
 mod chunks;
 #[cfg(test)]
 mod failed_readings;

@@ -1,4 +1,4 @@
-//! The line and the status of each fault of a run: no clause speaks of a `Display`.
+//! The line and the status of each fault of a run, as users know them.
 use crate::answers::is_told;
 use micro_num::NumFault;
 use raster::GridFault;

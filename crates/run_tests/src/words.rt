@@ -1,4 +1,4 @@
-//! Which tasks words name, and how words are refused: no clause says either.
+//! Which tasks words name, and how words are refused. Clauses say both; no clause says that memory is found.
 use geometry::Point;
 use micro_num::Unit;
 use raster::Rule;

@@ -7,3 +7,4 @@ pub mod Written
 pub mod Stage
 pub mod TextReader
 pub mod Reading
+pub mod StlFault

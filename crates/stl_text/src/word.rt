@@ -1,5 +1,6 @@
 //! What may be wanted at a byte offset of a text, and the table of keywords.
-ghost use Rattle.std.specs.Prelude.{◌≡◌};
+ghost use Rattle.std.specs.Prelude.{◌≡◌, Some};
+ghost use Rattle.stl_text.specs.StlFault.{wanted_text};
 ghost use Rattle.stl_text.specs.Text.{HasOneKeyword, keyword_text};
 
 use micro_num::WORD_LIMIT;
@@ -34,7 +35,8 @@ impl Word {
     /// What is wanted: the keyword in lower case, `facet or endsolid`, or `number`.
     #[inline(always)]
     pub(crate) fn text(self) -> &'static str
-        ensures { HasOneKeyword self → result.now ≡ keyword_text self }
+        ensures text { result.now ≡ wanted_text self }
+        ensures keyword { HasOneKeyword self → result.now ≡ keyword_text self }
     {
         match self {
             Word::Solid => "solid",
@@ -51,6 +53,8 @@ impl Word {
 }
 
 impl Display for Word {
+    ghost output = { λ word. Some (wanted_text word) };
+
     /// The keyword in lower case; `facet or endsolid`; `number`.
     fn fmt<W: Write>(&self, f: &mut Formatter<W>) -> Result<(), Error> {
         f.write_str(self.text())

@@ -9,3 +9,4 @@ pub mod Slicing
 pub mod Stream
 pub mod Unwritten
 pub mod WrittenPixels
+pub mod WrittenFiles

@@ -1,9 +1,16 @@
 //! What follows from the definitions of an outcome and of a run alone.
-ghost use Rattle.std.specs.Prelude.{◌≡◌, ◌↔◌, Bool, List, Ok, Option, Result, Some, ℕ};
+ghost use Rattle.std.specs.Prelude.{◌≡◌, ◌↔◌, Bool, List, Ok, Option, Result, Some, map, ℕ};
 ghost use Rattle.std.specs.Io.KnownBytes.{Appends};
 ghost use Rattle.micro_num.specs.declared.unit.Unit.{Unit as LengthUnit};
 ghost use Rattle.devices.specs.Transcript.{Transcript};
+ghost use Rattle.raster.specs.Filler.{below};
+ghost use Rattle.raster.specs.Image.{image_of_pixels};
+ghost use Rattle.raster.specs.Stream.{behind_image, cut};
 ghost use Rattle.raster.specs.declared.rule.Rule.{Rule};
+ghost use Rattle.layer_png.specs.Stream.{cut_pngs};
+ghost use Rattle.layer_png.specs.Text.{png_of_pixels};
+ghost use Rattle.layer_png.specs.declared.depth.Depth.{Depth};
+ghost use Rattle.layer_png.specs.declared.mirrors.Mirrors.{Mirrors};
 ghost use Rattle.task_words.specs.declared.task.Given.{Given};
 ghost use Rattle.task_words.specs.declared.task.Task.{Task};
 ghost use Rattle.stlslice.specs.Outcome.{IsOutcome, slicing};
@@ -11,6 +18,7 @@ ghost use Rattle.stlslice.specs.Run.{IsRun};
 ghost use Rattle.stlslice.specs.WrittenPixels.{IsSlicedFrom};
 ghost use Rattle.stlslice.specs.declared.run_fault.RunFault.{RunFault};
 ghost use Rattle.stlslice.specs.declared.write.Output.{Output};
+ghost use Rattle.stlslice.specs.declared.write.Output.TheVariants as output;
 
 /// A task and an input have exactly one outcome, a text or a fault, and slicing has the same with any number of workers.
 pub fn one_answer()
@@ -44,4 +52,18 @@ pub fn written_pixels()
         (input : List ℕ) (source sink : Transcript) (is_settled : Bool)
         → IsRun {T = Unit {0}} (slicing unit pitch layer rule workers grid out) (Ok tt) source sink is_settled → source.old ≡ Some input
         → (text : List ℕ) × IsSlicedFrom unit pitch layer rule out grid input text × Appends sink.old sink.new text }
+{}
+
+/// How what slicing writes is cut into one file a layer again.
+///
+/// - `images`: who reads a header of P4 and as many bytes as it tells, again and again, finds exactly the images of the layers,
+///   from 0 up.
+/// - `pngs`: who reads chunk by chunk up to IEND, again and again, finds exactly the PNGs of the layers, from 0 up.
+pub fn written_files()
+    ensures images { (unit : LengthUnit) (pitch layer : ℕ) (rule : Rule) (grid : Option Given) (input text : List ℕ)
+        → (from : IsSlicedFrom unit pitch layer rule output.Images grid input text)
+        → cut behind_image text ≡ Some (map (λ k. image_of_pixels from.grid.columns from.grid.rows (from.pixel k)) (below from.grid.layers)) }
+    ensures pngs { (unit : LengthUnit) (pitch layer : ℕ) (rule : Rule) (grid : Option Given) (depth : Depth) (mirrors : Mirrors)
+        (input text : List ℕ) → (from : IsSlicedFrom unit pitch layer rule (output.Pngs depth mirrors) grid input text)
+        → cut_pngs text ≡ Some (map (λ k. png_of_pixels from.grid depth mirrors (from.pixel k)) (below from.grid.layers)) }
 {}

@@ -21,6 +21,7 @@
 //! - [`load`]: the closed mesh of a text in memory.
 //! - [`one_answer`]: a law. A task and an input have one outcome, whatever the number of workers.
 //! - [`written_pixels`]: a law. A pixel that slicing writes follows the ray of all facets that were read.
+//! - [`written_files`]: a law. Images or PNGs that slicing writes are cut into those of the layers in one way.
 //!
 //! Pitch, layer height and the box are in micrometres.
 #![tactic(auto)]
@@ -33,7 +34,7 @@ mod write;
 
 pub use build_book::Piece;
 pub use devices::{Counted, Failed, Failures, Sink, Source};
-pub use laws::{one_answer, written_pixels};
+pub use laws::{one_answer, written_files, written_pixels};
 pub use layer_pool::Gate;
 pub use loading::load;
 pub use raster::image_len;

@@ -1,6 +1,6 @@
 //! Why a run wrote no text, or not all of it.
-ghost use Rattle.std.specs.Prelude.{◌≡◌};
-ghost use Rattle.stlslice.specs.RunFault.{of_read, of_weld, run_status};
+ghost use Rattle.std.specs.Prelude.{◌≡◌, Some};
+ghost use Rattle.stlslice.specs.RunFault.{of_read, of_weld, run_fault_text, run_status};
 ghost use Rattle.stlslice.specs.declared.run_fault.RunFault.TheVariants.{Grid, Memory, Write};
 
 use devices::WriteFault;
@@ -9,6 +9,7 @@ use mesh_reading::ReadFault;
 use mesh_weld::WeldFault;
 use raster::GridFault;
 use std::alloc::AllocError;
+use std::fmt::{self, Display, Formatter, Write as TextWrite};
 use stl_text::StlFault;
 use thiserror::Error;
 
@@ -16,14 +17,11 @@ use thiserror::Error;
 #[derive(Clone, Copy, Debug, PartialEq, Eq, Error)]
 pub enum RunFault {
     /// The input could not be read. Nothing was written.
-    #[error("stlslice: read failed")]
     Read,
     /// The input does not read as facets. Nothing was written.
-    #[error("stlslice: {0}")]
     Stl(StlFault),
     /// The mesh is not closed: `there` half-edges run from `from` to `to`, and `back` half-edges run back. Both points are in
     /// micrometres. Of all pairs whose two numbers differ, with `from` before `to`, this is the least. Nothing was written.
-    #[error("stlslice: open edge {from} to {to} there {there} back {back}")]
     Open {
         from: Point,
         to: Point,
@@ -31,18 +29,14 @@ pub enum RunFault {
         back: u32,
     },
     /// There is no grid. Nothing was written.
-    #[error("stlslice: {0}")]
     Grid(GridFault),
     /// An allocation failed. Nothing was written.
-    #[error("stlslice: out of memory")]
     Memory,
     /// The output could not be written. Its first `written` bytes were.
-    #[error("stlslice: write failed after {written} bytes")]
     Write {
         written: u64,
     },
     /// The voxel is not in the grid, which has these counts. Nothing was written.
-    #[error("stlslice: voxel outside the grid: {columns} columns, {rows} rows, {layers} layers")]
     Outside {
         columns: u32,
         rows: u32,
@@ -62,6 +56,39 @@ impl RunFault {
             RunFault::Grid(_) | RunFault::Outside { .. } => 5,
             RunFault::Memory => 6,
             RunFault::Read | RunFault::Write { .. } => 7,
+        }
+    }
+}
+
+impl Display for RunFault {
+    ghost output = { λ fault. Some (run_fault_text fault) };
+
+    fn fmt<W: TextWrite>(&self, f: &mut Formatter<W>) -> fmt::Result {
+        match self {
+            RunFault::Read => f.write_str("stlslice: read failed"),
+            RunFault::Stl(cause) => write!(f, "stlslice: {cause}"),
+            RunFault::Open {
+                from,
+                to,
+                there,
+                back,
+            } => write!(
+                f,
+                "stlslice: open edge {from} to {to} there {there} back {back}"
+            ),
+            RunFault::Grid(cause) => write!(f, "stlslice: {cause}"),
+            RunFault::Memory => f.write_str("stlslice: out of memory"),
+            RunFault::Write { written } => {
+                write!(f, "stlslice: write failed after {written} bytes")
+            }
+            RunFault::Outside {
+                columns,
+                rows,
+                layers,
+            } => write!(
+                f,
+                "stlslice: voxel outside the grid: {columns} columns, {rows} rows, {layers} layers"
+            ),
         }
     }
 }

@@ -1,5 +1,5 @@
 -- What a call leaves, and the status that it returns.
-use Rattle.std.specs.Prelude.{◌≡◌, ◌⊎◌, ◌<◌, ◌≤◌, ◌∷◌, ◌++◌, ◌+◌, ◌-◌, ℕ, List, length, drop, take, min, Option, Some, None, Ok, Err, codes}
+use Rattle.std.specs.Prelude.{◌≡◌, ◌⊎◌, ◌<◌, ◌≤◌, ◌∷◌, ◌++◌, ◌+◌, ◌-◌, ℕ, List, length, drop, take, min, Option, Some, None, Ok, Err}
 use Rattle.geometry.specs.Facet.{Facet}
 use Rattle.geometry.specs.BoundingBox.{extent}
 use Rattle.geometry.specs.declared.limits.TheConstants.{FACET_LIMIT}
@@ -11,6 +11,7 @@ use Rattle.layer_png.specs.declared.mirrors.Mirrors.{Mirrors}
 use Rattle.build_book.specs.Job.{Job, stripe_count}
 use Rattle.layer_session.specs.Answers.{image_of, outside, png_of_layer, probed, stripe_images}
 use Rattle.layer_session.specs.Session.{Input, IsOpenFault, IsSessionOf, Session}
+use Rattle.layer_session.specs.SessionFault.{session_fault_text}
 use Rattle.layer_session.specs.Setup.{HasSteps}
 use Rattle.layer_session.specs.declared.setup.Setup.{Setup}
 use Rattle.layer_session.specs.declared.session_fault.SessionFault.{SessionFault}
@@ -81,16 +82,20 @@ abbrev pub IsLine : List ℕ → List ℕ → List ℕ → Type 0
 IsLine text old new = (1 ≤ length old)
     → new ≡ take (min (length text) (length old - 1)) text ++ 0 ∷ drop (min (length text) (length old - 1) + 1) old
 
--- The line of a fault. For a text, a mesh or a grid the program writes the `Display` of the fault, and this line is the same.
--- So is the line of arrays. `thiserror` derives it without a contract, so no more is said of it than that it is a text.
+-- the line of a session's fault, or that of its status
+abbrev pub IsToldOrShort : SessionFault → List ℕ → List ℕ → Type 0
+IsToldOrShort told old new = IsLine (session_fault_text told) old new ⊎ IsLine (status_text (status_of told)) old new
+
+-- The line of a fault: that of the session's, or that of the status if there is no memory for it. What is outside the grid is
+-- told by its status alone.
 abbrev pub IsFaultLine : SessionFault → List ℕ → List ℕ → Type 0
-IsFaultLine fault.Step old new = IsLine (codes "pitch and layer height take 1 to 100000 micrometres") old new
-IsFaultLine fault.Memory old new = IsLine (status_text MEMORY) old new
+IsFaultLine fault.Step old new = IsLine (session_fault_text fault.Step) old new
+IsFaultLine fault.Memory old new = IsLine (session_fault_text fault.Memory) old new
 IsFaultLine (fault.Outside columns rows layers) old new = IsLine (status_text OUT_OF_RANGE) old new
-IsFaultLine (fault.Stl cause) old new = (text : List ℕ) × IsLine text old new
-IsFaultLine (fault.Arrays cause) old new = (text : List ℕ) × IsLine text old new
-IsFaultLine (fault.Weld cause) old new = (text : List ℕ) × IsLine text old new
-IsFaultLine (fault.Grid cause) old new = (text : List ℕ) × IsLine text old new
+IsFaultLine (fault.Stl cause) old new = IsToldOrShort (fault.Stl cause) old new
+IsFaultLine (fault.Arrays cause) old new = IsToldOrShort (fault.Arrays cause) old new
+IsFaultLine (fault.Weld cause) old new = IsToldOrShort (fault.Weld cause) old new
+IsFaultLine (fault.Grid cause) old new = IsToldOrShort (fault.Grid cause) old new
 
 -- what is said of a text that has no box
 abbrev pub IsTextFault : LengthUnit → List ℕ → SessionFault → Type 0

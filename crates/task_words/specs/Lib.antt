@@ -1,2 +1,7 @@
-pub mod WordFault
+pub mod Command
+pub mod Matches
+pub mod Options
 pub mod Task
+pub mod Texts
+pub mod WordFault
+pub mod Words

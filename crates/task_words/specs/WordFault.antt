@@ -1,8 +1,11 @@
--- The faults of words: out of memory is never `Refused`; and the exit status of each fault.
-use Rattle.std.specs.Prelude.{◌≡◌, ◌≢◌, ◌⊎◌, ℕ}
+-- The faults of words: out of memory is never `Refused`; and the exit status and the line of each fault.
+use Rattle.std.specs.Prelude.{◌≡◌, ◌≢◌, ◌++◌, ℕ, List, Option, Some, None, codes}
 use Rattle.clap.specs.Words.{kind_of}
 use Rattle.clap.specs.declared.error.kind.ErrorKind.TheVariants.{DisplayHelp, DisplayVersion, OutOfMemory}
 use Rattle.task_words.specs.declared.word_fault.PngOption.{PngOption}
+use Rattle.task_words.specs.declared.word_fault.PngOption.TheVariants.{Depth, MirrorX, MirrorY}
+use Rattle.task_words.specs.declared.word_fault.Wanted.{Wanted}
+use Rattle.task_words.specs.declared.word_fault.Wanted.TheVariants.{Layer, Pitch}
 use Rattle.task_words.specs.declared.word_fault.WordFault.{WordFault}
 use Rattle.task_words.specs.declared.word_fault.WordFault.TheVariants as words
 
@@ -33,6 +36,25 @@ IsWordStatus words.BadProbe status = status ≡ 2
 IsWordStatus words.BadDepth status = status ≡ 2
 IsWordStatus (words.WithoutPng option) status = status ≡ 2
 
--- the text of `--depth` is no depth, or an option of PNGs is given without `--png`
-abbrev pub IsPngFault : WordFault → Type 0
-IsPngFault fault = (fault ≡ words.BadDepth) ⊎ ((option : PngOption) × (fault ≡ words.WithoutPng option))
+-- options as they are written
+
+abbrev pub wanted_text : Wanted → List ℕ
+wanted_text Pitch = codes "--pitch"
+wanted_text Layer = codes "--layer"
+
+abbrev pub png_option_text : PngOption → List ℕ
+png_option_text Depth = codes "--depth"
+png_option_text MirrorX = codes "--mirror-x"
+png_option_text MirrorY = codes "--mirror-y"
+
+-- the line of a fault; `clap` words a refusal, and nothing is said of that
+abbrev pub word_fault_text : WordFault → Option (List ℕ)
+word_fault_text (words.Refused refusal) = None
+word_fault_text (words.Missing option) = Some (codes "stlslice: " ++ (wanted_text option ++ codes " is missing"))
+word_fault_text words.BadRule = Some (codes "stlslice: --rule takes evenodd, nonzero or positive")
+word_fault_text words.Memory = Some (codes "stlslice: out of memory")
+word_fault_text words.BadUnit = Some (codes "stlslice: --unit takes mm or inch")
+word_fault_text words.BadGrid = Some (codes "stlslice: --grid takes COLUMNS,ROWS,LAYERS,X0,Y0,Z0")
+word_fault_text words.BadProbe = Some (codes "stlslice: --probe takes I,J,K")
+word_fault_text words.BadDepth = Some (codes "stlslice: --depth takes 8 or 1")
+word_fault_text (words.WithoutPng option) = Some (codes "stlslice: " ++ (png_option_text option ++ codes " goes with --png"))

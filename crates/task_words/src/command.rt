@@ -1,4 +1,12 @@
 //! The command as `--help` shows it: its options, their values and defaults.
+ghost use Rattle.std.specs.Prelude.{◌≡◌, ◌∷◌, [], None, Some, IfOk, codes, false};
+ghost use Rattle.clap.specs.Words.{app_of, rule_of, with_rule};
+ghost use Rattle.geometry.specs.declared.limits.TheConstants.{STEP_LIMIT};
+ghost use Rattle.stripe_claims.specs.declared.limits.TheConstants.{PASS_LIMIT};
+ghost use Rattle.task_words.specs.Command.{command_with, declared};
+ghost use Rattle.task_words.specs.Options.{any_text, flag, number};
+ghost use Rattle.task_words.specs.Words.{row, settings};
+
 use clap::{Arg, ArgAction, Command, value_parser};
 use geometry::STEP_LIMIT;
 use std::alloc::{AllocError, Global};
@@ -32,6 +40,9 @@ pub(crate) const MIRROR_X: &str = "mirror-x";
 pub(crate) const MIRROR_Y: &str = "mirror-y";
 
 pub(crate) const PROGRESS: &str = "progress";
+
+/// The flag that asks for progress, as it is written.
+pub(crate) const PROGRESS_WORD: &str = "--progress";
 
 /// What `--version` prints after the program's name: the version, and the toolchain that proved it.
 const VERSION: &str = "1.0.0 (proved with rattle-kit-13 logic dac8208d650f15bf)";
@@ -70,7 +81,9 @@ Exit status:
 
 /// The command. It takes the words after the program's name. It requires no option, and no option excludes another: `words`
 /// looks for what is missing.
-pub(crate) fn command<'a>(alloc: Global) -> Result<Command<'a>, AllocError> {
+pub(crate) fn command<'a>(alloc: Global) -> Result<Command<'a>, AllocError>
+    ensures { IfOk result (λ c. app_of c ≡ command_with settings) }
+{
     let command = Command::new(alloc, "stlslice")
         .version(VERSION)
         .no_binary_name(true)
@@ -102,7 +115,11 @@ pub(crate) fn command<'a>(alloc: Global) -> Result<Command<'a>, AllocError> {
 }
 
 /// The command with the options of PNGs.
-fn with_pngs<'a>(alloc: Global, command: Command<'a>) -> Result<Command<'a>, AllocError> {
+fn with_pngs<'a>(alloc: Global, command: Command<'a>) -> Result<Command<'a>, AllocError>
+    ensures { IfOk result (λ c. app_of c ≡ with_rule (with_rule (with_rule (with_rule (app_of command.entry)
+        (declared (row (codes "png") flag None))) (declared (row (codes "depth") any_text (Some (codes "8")))))
+        (declared (row (codes "mirror-x") flag None))) (declared (row (codes "mirror-y") flag None))) }
+{
     command
         .arg(flag(
             alloc,
@@ -122,7 +139,10 @@ fn with_pngs<'a>(alloc: Global, command: Command<'a>) -> Result<Command<'a>, All
         ))
 }
 
-fn pitch<'a>(alloc: Global) -> Arg<'a> {
+fn pitch<'a>(alloc: Global) -> Arg<'a>
+    ensures rule { rule_of result ≡ declared (row (codes "pitch") (number STEP_LIMIT) None) }
+    ensures local { result.global ≡ false }
+{
     Arg::new(alloc, PITCH)
         .long(PITCH)
         .value_name("N")
@@ -132,7 +152,10 @@ fn pitch<'a>(alloc: Global) -> Arg<'a> {
         )
 }
 
-fn layer<'a>(alloc: Global) -> Arg<'a> {
+fn layer<'a>(alloc: Global) -> Arg<'a>
+    ensures rule { rule_of result ≡ declared (row (codes "layer") (number STEP_LIMIT) None) }
+    ensures local { result.global ≡ false }
+{
     Arg::new(alloc, LAYER)
         .long(LAYER)
         .value_name("N")
@@ -142,7 +165,10 @@ fn layer<'a>(alloc: Global) -> Arg<'a> {
         )
 }
 
-fn rule<'a>(alloc: Global) -> Arg<'a> {
+fn rule<'a>(alloc: Global) -> Arg<'a>
+    ensures rule { rule_of result ≡ declared (row (codes "rule") any_text (Some (codes "evenodd"))) }
+    ensures local { result.global ≡ false }
+{
     Arg::new(alloc, RULE)
         .long(RULE)
         .value_name("R")
@@ -152,7 +178,10 @@ fn rule<'a>(alloc: Global) -> Arg<'a> {
         )
 }
 
-fn unit<'a>(alloc: Global) -> Arg<'a> {
+fn unit<'a>(alloc: Global) -> Arg<'a>
+    ensures rule { rule_of result ≡ declared (row (codes "unit") any_text (Some (codes "mm"))) }
+    ensures local { result.global ≡ false }
+{
     Arg::new(alloc, UNIT)
         .long(UNIT)
         .value_name("U")
@@ -162,7 +191,10 @@ fn unit<'a>(alloc: Global) -> Arg<'a> {
         )
 }
 
-fn grid<'a>(alloc: Global) -> Arg<'a> {
+fn grid<'a>(alloc: Global) -> Arg<'a>
+    ensures rule { rule_of result ≡ declared (row (codes "grid") any_text None) }
+    ensures local { result.global ≡ false }
+{
     Arg::new(alloc, GRID)
         .long(GRID)
         .value_name("COLUMNS,ROWS,LAYERS,X0,Y0,Z0")
@@ -171,7 +203,10 @@ fn grid<'a>(alloc: Global) -> Arg<'a> {
         )
 }
 
-fn workers<'a>(alloc: Global) -> Arg<'a> {
+fn workers<'a>(alloc: Global) -> Arg<'a>
+    ensures rule { rule_of result ≡ declared (row (codes "workers") (number PASS_LIMIT) (Some (codes "1"))) }
+    ensures local { result.global ≡ false }
+{
     Arg::new(alloc, WORKERS)
         .long(WORKERS)
         .value_name("N")
@@ -180,7 +215,10 @@ fn workers<'a>(alloc: Global) -> Arg<'a> {
         .help("Number of threads, 1 to 64, as in --workers 4;\nthe output is the same for each")
 }
 
-fn depth<'a>(alloc: Global) -> Arg<'a> {
+fn depth<'a>(alloc: Global) -> Arg<'a>
+    ensures rule { rule_of result ≡ declared (row (codes "depth") any_text (Some (codes "8"))) }
+    ensures local { result.global ≡ false }
+{
     Arg::new(alloc, DEPTH)
         .long(DEPTH)
         .value_name("D")
@@ -188,13 +226,19 @@ fn depth<'a>(alloc: Global) -> Arg<'a> {
         .help("Bits of a pixel of a PNG: 8 or 1")
 }
 
-fn probe<'a>(alloc: Global) -> Arg<'a> {
+fn probe<'a>(alloc: Global) -> Arg<'a>
+    ensures rule { rule_of result ≡ declared (row (codes "probe") any_text None) }
+    ensures local { result.global ≡ false }
+{
     Arg::new(alloc, PROBE).long(PROBE).value_name("I,J,K").help(
         "Write the sums of signed crossings at one voxel, by a ray\nalong x and one along y: its column, row (from the least y)\nand layer, counted from 0, as in --probe 3,4,0",
     )
 }
 
-fn flag<'a>(alloc: Global, name: &'a str, help: &'a str) -> Arg<'a> {
+fn flag<'a>(alloc: Global, name: &'a str, help: &'a str) -> Arg<'a>
+    ensures rule { rule_of result ≡ declared (row name.entry.now flag None) }
+    ensures local { result.global ≡ false }
+{
     Arg::new(alloc, name)
         .long(name)
         .action(ArgAction::SetTrue)

@@ -1,9 +1,9 @@
 //! Why words stand for no task.
-ghost use Rattle.std.specs.Prelude.{◌≡◌, ◌≢◌};
+ghost use Rattle.std.specs.Prelude.{◌≡◌, ◌≢◌, Some};
 ghost use Rattle.clap.specs.Words.{kind_of};
 ghost use Rattle.clap.specs.declared.error.kind.ErrorKind.TheVariants.{OutOfMemory};
 ghost use Rattle.task_words.specs.declared.word_fault.WordFault.TheVariants.{Memory, Refused};
-ghost use Rattle.task_words.specs.WordFault.{IsNoMemoryRefusal, IsWordStatus};
+ghost use Rattle.task_words.specs.WordFault.{IsNoMemoryRefusal, IsWordStatus, png_option_text, wanted_text, word_fault_text};
 
 use clap::Error as Refusal;
 use clap::error::ErrorKind;
@@ -19,6 +19,8 @@ pub enum Wanted {
 }
 
 impl Display for Wanted {
+    ghost output = { λ option. Some (wanted_text option) };
+
     /// The option as it is written in the command.
     fn fmt<W: Write>(&self, f: &mut Formatter<W>) -> fmt::Result {
         f.write_str(match self {
@@ -37,6 +39,8 @@ pub enum PngOption {
 }
 
 impl Display for PngOption {
+    ghost output = { λ option. Some (png_option_text option) };
+
     /// The option as it is written in the command.
     fn fmt<W: Write>(&self, f: &mut Formatter<W>) -> fmt::Result {
         f.write_str(match self {
@@ -48,36 +52,49 @@ impl Display for PngOption {
 }
 
 /// Why words are no task. Its `Display` is the program's line on standard error; that of `Refused` is a text of several
-/// lines.
+/// lines, of which no clause speaks.
 #[derive(Debug, Drop, Error)]
 pub enum WordFault {
     /// The words do not fit the command, or ask for its help or its version.
-    #[error("{0}")]
     Refused(Refusal),
     /// A task other than the box needs this option.
-    #[error("stlslice: {option} is missing")]
     Missing { option: Wanted },
     /// The text of `--rule` is not among the rules.
-    #[error("stlslice: --rule takes evenodd, nonzero or positive")]
     BadRule,
     /// An allocation failed.
-    #[error("stlslice: out of memory")]
     Memory,
     /// The text of `--unit` is not among the units.
-    #[error("stlslice: --unit takes mm or inch")]
     BadUnit,
     /// The text of `--grid` is no grid.
-    #[error("stlslice: --grid takes COLUMNS,ROWS,LAYERS,X0,Y0,Z0")]
     BadGrid,
     /// The text of `--probe` is no voxel.
-    #[error("stlslice: --probe takes I,J,K")]
     BadProbe,
     /// The text of `--depth` is no depth.
-    #[error("stlslice: --depth takes 8 or 1")]
     BadDepth,
     /// This option is given without `--png`.
-    #[error("stlslice: {option} goes with --png")]
     WithoutPng { option: PngOption },
+}
+
+impl Display for WordFault {
+    ghost output = { word_fault_text };
+
+    fn fmt<W: Write>(&self, f: &mut Formatter<W>) -> fmt::Result {
+        match self {
+            WordFault::Refused(refusal) => refusal.fmt(f),
+            WordFault::Missing { option } => write!(f, "stlslice: {option} is missing"),
+            WordFault::BadRule => {
+                f.write_str("stlslice: --rule takes evenodd, nonzero or positive")
+            }
+            WordFault::Memory => f.write_str("stlslice: out of memory"),
+            WordFault::BadUnit => f.write_str("stlslice: --unit takes mm or inch"),
+            WordFault::BadGrid => {
+                f.write_str("stlslice: --grid takes COLUMNS,ROWS,LAYERS,X0,Y0,Z0")
+            }
+            WordFault::BadProbe => f.write_str("stlslice: --probe takes I,J,K"),
+            WordFault::BadDepth => f.write_str("stlslice: --depth takes 8 or 1"),
+            WordFault::WithoutPng { option } => write!(f, "stlslice: {option} goes with --png"),
+        }
+    }
 }
 
 impl WordFault {

@@ -1,17 +1,15 @@
-"""What is tried beside the page, without a browser: its heap, and the messages of library/web/module.py."""
+"""What is tried beside the page, without a browser: its heap, and the messages of library/proved.py."""
 
 import os
 
-from common import HERE, WEB, holds, library_test, same
+from common import HERE, ROOT, holds, library_test, same
 
-# What stands for `rt` in a toolchain that has changed, and what module.py says then
-CLANG = '"$KIT/toolchain/bin/clang"'
+# What stands for `rattle` in a toolchain that has changed, and what proved.py says then
+CLANG = "for word; do [ $before = --toolchain ] && kit=$word; before=$word; done; $kit/bin/clang"
 CHANGED = [
-    ("exit 0", "the toolchain has changed: rt lib gave clang 0 files NAME.bc, and not one"),
-    ("exit 3", "rt lib ended with status 3; "),
-    (f"touch a.bc b.bc; {CLANG} a.bc b.bc", "the toolchain has changed: rt lib gave clang 2 files NAME.bc, and not one"),
-    (f"touch a.bc; {CLANG} a.bc; echo >> lib.a", "what was built is not "),
-    (None, "the toolchain has changed: there is no toolchain/bin/clang in "),
+    ("exit 0", "the toolchain has changed: it gave clang 0 modules, and not one"),
+    ("exit 3", "/bin/rattle build ended with status 3"),
+    (f"touch a.bc b.bc; before=-; {CLANG} a.bc b.bc", "the toolchain has changed: it gave clang 2 modules, and not one"),
 ]
 
 
@@ -34,11 +32,10 @@ def try_changed_toolchains(room):
     """If the toolchain's names have changed, one line says so."""
     for number, (body, wanted) in enumerate(CHANGED):
         kit = os.path.join(room, f"kit{number}")
-        put(f"{kit}/lib.a", "")
-        put(f"{kit}/bin/rt", f'KIT=$(dirname "$(dirname "$0")")\n{body or "exit 0"}')
-        if body:
-            put(f"{kit}/toolchain/bin/clang", "exit 0")
-        status, _, wrong = library_test.ran([os.path.join(WEB, "module.py"), kit, f"{kit}/lib.a", f"{kit}/module.bc"],
+        put(f"{kit}/bin/rt", f'test "$1" != doc || echo {kit}/START-HERE.md')
+        put(f"{kit}/bin/rattle", f"cd {room}; {body}")
+        put(f"{kit}/toolchain/bin/clang", "exit 0")
+        status, _, wrong = library_test.ran([os.path.join(ROOT, "library", "proved.py"), f"{kit}/lib.a", f"{kit}/module.bc"],
                                             env={**os.environ, "PATH": f"{kit}/bin:{os.environ['PATH']}"})
         same(f"status in a changed toolchain: {wrong}", status, 1)
         holds(f"{wrong!r} says {wanted!r}", wanted in wrong)

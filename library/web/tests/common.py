@@ -6,13 +6,15 @@ import importlib.util
 import json
 import os
 import sys
+import time
 from concurrent.futures import ThreadPoolExecutor
 
 HERE = os.path.dirname(os.path.abspath(__file__))
 WEB = os.path.dirname(HERE)
 ROOT = os.path.dirname(os.path.dirname(WEB))
-DESK, PHONE = (1280, 800), (390, 844)
-IDLE = "!is_opening && part && (opened?.of === part || !by('fault').hidden)"
+DESK, PHONE = (1440, 900), (390, 844)
+IDLE = "!slice.is_running() && part && (opened?.of === part || !by('fault').hidden)"
+SECONDS = 240  # for a file to be saved
 CHANGED = "by('form').dispatchEvent(new Event('change', { bubbles: true }))"
 
 
@@ -94,12 +96,15 @@ def cases(room, program):
 class Page:
     """The page in a browser. `set` fills its form, for the file that is chosen next."""
 
-    def __init__(self, chromium, path):
-        self.browser, self.url = chromium, f"file://{path}"
-        self.value, self.in_worker, self.until = chromium.value, chromium.in_worker, chromium.until
+    def __init__(self, browser, path):
+        self.browser, self.url = browser, f"file://{path}"
+        self.value, self.in_worker, self.until = browser.value, browser.in_worker, browser.until
 
-    def load(self, size=DESK):
-        self.browser.open(self.url, size)
+    def load(self, *how, is_kept=False):
+        """Loads the page from nothing, and with nothing that was kept of an earlier visit."""
+        if not is_kept:
+            self.value("(() => { try { localStorage.clear(); } catch {} })()")
+        self.browser.open(self.url, *(how or [DESK]))
         self.until("by('version').textContent || !by('fault').hidden")
 
     def set(self, pitch, layer, rule=2, unit=0, **_):
@@ -116,12 +121,23 @@ class Page:
         self.browser.choose("#file", path)
         self.until(IDLE)
 
+    def saved(self, name, click):
+        """Clicks a button, and returns the path of the file that is saved then."""
+        path, end = os.path.join(self.browser.saved, name), time.monotonic() + SECONDS
+        if os.path.exists(path):
+            os.remove(path)
+        self.value(f"by({json.dumps(click)}).click()")
+        while time.monotonic() < end and not (os.path.exists(path) and os.path.getsize(path) and not os.path.exists(f"{path}.part")):
+            self.value("new Promise((done) => setTimeout(() => done(0), 50))")
+        holds(f"{name} was saved", os.path.exists(path))
+        return path
+
     def text(self, name):
         return self.value(f"by({json.dumps(name)}).textContent")
 
     def k(self):
         """The layer that is shown, once it is that of the slider."""
-        self.until("opened && shown && shown.k === k_now() && !is_showing")
+        self.until("opened && shown && shown.k === k_now() && !show_layer.is_running() && !is_drawn_soon")
         return self.value("shown.k")
 
     def middle(self, selector):

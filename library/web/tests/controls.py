@@ -1,9 +1,7 @@
-"""The page's controls, used as by hand: files, slider, keys, wheel, plot, canvas, wrong fields, hints, saving, examples."""
+"""The page's controls, used as by hand: slider, keys, wheel, plot, canvas, wrong fields, hints, saving, examples."""
 
 import base64
-import math
 import os
-import struct
 import subprocess
 import time
 
@@ -107,7 +105,7 @@ def try_told(page, program):
 def try_drop(page):
     page.load()
     page.set(200, 200)
-    page.browser.drop(example("supported"), *page.middle("#image"))
+    page.browser.drop([example("supported")], *page.middle("#image"))
     page.until(IDLE)
     same("the part that was dropped", page.text("name"), "supported.stl")
     page.browser.choose("#file", example("bracket"))
@@ -130,11 +128,23 @@ def try_canvas(page, program):
     images, *_ = images_of(program, example("bracket"), "--pitch", "100", "--layer", "100", "--rule", "positive", grid)
     same("the images on a canvas", base64.b64decode(page.in_worker(script("all_layers"))["images"]),
          b"".join(b"P4\n517 303\n" + it for it in images))
-    holds("the command has the grid", grid in page.text("command"))
+    try_mirrors(page, images[60], columns=517)
     page.change(rows=10)
     page.until("!by('fault').hidden")
     same("the fault of a part that is too large", page.text("fault_line"),
          "the part doesn't fit: it is 31.964 x 12.000 mm, the canvas 51.700 x 1.000 mm")
+
+
+def try_mirrors(page, image, columns):
+    """The page shows the images of a canvas as they are saved: mirrored, if that was chosen."""
+    stride = (columns + 7) // 8
+    rows = ["".join(f"{byte:08b}" for byte in image[at:at + stride])[:columns] for at in range(0, len(image), stride)]
+    page.value("by('outlines').checked = false; go(60)")
+    same("layer", page.k(), 60)
+    for x, y in ((True, False), (False, True), (True, True), (False, False)):
+        page.value(f"by('mirror_x').checked = {str(x).lower()}; by('mirror_y').checked = {str(y).lower()}; draw()")
+        seen = [row[::-1] if x else row for row in (rows[::-1] if y else rows)]
+        same(f"the pixels with mirrors {x}, {y}", page.value(SHOWN), "".join(seen))
 
 
 # Whether the canvas shows a pixel of the image as filled, when it is near and in the middle
@@ -191,7 +201,7 @@ def try_wrong_fields(page):
     same("what a browser restores of the form", page.value("by('form').autocomplete"), "off")
     at_openings(page, f"by('pitch').value = ''; {CHANGED}")
     page.change(height=300)
-    page.until("!is_opening")
+    page.until("!slice.is_running()")
     same("the mesh, and the fault of a field that is cleared", page.value("[opened?.options.layer, by('fault').hidden]"), [300, True])
     page.change(pitch=50)
     page.until(f"{IDLE} && opened.options.pitch === 50")
@@ -202,6 +212,7 @@ def try_hints(page, room):
     page.load(PHONE)
     page.take(broken(room))
     same("whether Tab comes to the hints", page.value("by('fault').tabIndex"), 0)
+    page.value("by('hints').querySelectorAll('details').forEach((it) => { it.open = true; })")
     for key, code in (("ArrowDown", 40), ("PageDown", 34), ("End", 35)):
         page.value("by('fault').scrollTop = 0")
         page.value("by('fault').focus()")
@@ -255,60 +266,6 @@ def try_demos(page):
         holds(f"{page.text('name')} is shown", page.value("opened.layers > 100 && shown.area > 0"))
 
 
-def shortest(number):
-    """The shortest decimal that reads back as a number of single precision."""
-    return next(word for word in (f"{number:.{digits}g}" for digits in range(1, 10)) if single(float(word)) == number)
-
-
-def single(number):
-    return struct.unpack("<f", struct.pack("<f", number))[0]
-
-
-def text_of(facets, word=shortest):
-    """Facets of nine numbers as a text, with the shortest decimals or other words."""
-    lines = ["solid"]
-    for facet in facets:
-        corners = (" ".join(map(word, facet[at:at + 3])) for at in (0, 3, 6))
-        lines += ["facet normal 0 0 0 outer loop", *(f"vertex {it}" for it in corners), "endloop endfacet"]
-    return "\n".join([*lines, "endsolid", ""]).encode()
-
-
-def half_micrometres(word):
-    """A number near a text's, of single precision, whose shortest decimal lies between two micrometres."""
-    return single(round(float(word) * 4) / 4 + 0.0005)
-
-
-def written(program, text, *words):
-    return subprocess.run([program, *words], input=text, capture_output=True, check=True).stdout
-
-
-def try_binary(page, room, program):
-    """A binary STL is the text with the shortest decimals of its numbers; a bad number is reported with its facet."""
-    with open(example("helical_gear"), encoding="ascii") as file:
-        words = file.read().split()
-    numbers = [half_micrometres(words[at + it]) for at, word in enumerate(words) if word == "vertex" for it in (1, 2, 3)]
-    facets, binary = [numbers[at:at + 9] for at in range(0, len(numbers), 9)], os.path.join(room, "binary.stl")
-    with open(binary, "wb") as file:
-        file.write(b"solid but binary".ljust(80) + struct.pack("<I", len(facets)))
-        file.write(b"".join(struct.pack("<12fH", 0, 0, 0, *facet, 0) for facet in facets))
-    page.load()
-    page.set(50, 100)
-    page.take(binary)
-    text = text_of(facets)
-    box = written(program, text, "--box")
-    holds("the box would be another with all digits", written(program, text_of(facets, repr), "--box") != box)
-    same("the box of a binary file", page.value("[...opened.low, ...opened.high]"), list(map(int, box.split()[3:])))
-    same("images of a binary file", base64.b64decode(page.in_worker(script("all_layers"))["images"]),
-         written(program, text, "--pitch", "50", "--layer", "100", "--rule", "positive"))
-    holds("the page says that the file is binary", "from a binary file" in page.text("facts"))
-    with open(binary, "r+b") as file:
-        file.seek(84 + 50 * 6 + 12)
-        file.write(struct.pack("<f", math.nan))
-    page.take(binary)
-    holds("a number that is none is reported", "not a number" in page.text("fault_line"))
-    holds("with its facet", page.text("fault_place").startswith("Facet 7 of the file"))
-
-
 def try_all(page, room, program):
     try_keys(page)
     try_told(page, program)
@@ -319,4 +276,3 @@ def try_all(page, room, program):
     try_hints(page, room)
     try_saving(page, program)
     try_demos(page)
-    try_binary(page, room, program)

@@ -28,6 +28,7 @@ def compare_layers(page, case, stlslice):
     told, name = page.in_worker(script("all_layers")), f"{case.path} {case.words}"
     same(f"images of {name}", base64.b64decode(told["images"]), case.stream)
     same(f"areas of {name}", told["areas"], case.numbers(5))
+    same(f"areas by stripes of {name}", told["stripes"], case.numbers(5))
     same(f"loops of {name}", [len(it) for it in told["ends"]], case.numbers(3))
     points = base64.b64decode(told["points"])
     points = list(struct.unpack(f"<{len(points) // 8}d", points))

@@ -79,7 +79,7 @@ MANY = """(async () => {
     const sizes = [], options = [400, 900, 250].map((pitch) => ({ pitch, layer: pitch, rule: 2, unit: 0 }));
     for (let i = 0; i < %d; i++) {
         sizes.push((await slicer.open(options[i %% 3], part)).memory);
-        if (i %% 7 === 0) await slicer.call("layer", { k: 5 });
+        if (i %% 7 === 0) await slicer.call("layer", { k: 5, side: 1, colours: [[9, 9, 9], [0, 0, 0]] });
         if (i %% 11 === 0) await slicer.call("open", { ...options[0], pitch: 0 }).catch(() => {});
     }
     return [sizes[100], sizes.at(-1)];

@@ -1,8 +1,14 @@
-"""The page in a large and a small window: nothing is cut or lies over anything else. Pictures of it are kept to be looked at."""
+"""The page in windows of several sizes, at 200 %, light and dark: nothing is cut or lies over anything else. Pictures of it are kept
+to be looked at."""
 
 import os
 
-from common import DESK, IDLE, PHONE, example, same, script
+from common import IDLE, PHONE, example, same, script
+
+# The windows of people, and the same at 200 %: half as wide and high, with two dots for each pixel along a side
+WINDOWS = {"desk": ((1440, 900), 1), "laptop": ((1024, 700), 1), "phone": (PHONE, 1),
+           "desk_200": ((720, 450), 2), "laptop_200": ((512, 350), 2), "phone_200": ((195, 422), 2)}
+STATES = 7
 
 
 def look(page, folder, name):
@@ -21,20 +27,46 @@ def broken(room):
     return path
 
 
+def other_kind(room):
+    path = os.path.join(room, "a long name of a part.3mf")
+    with open(path, "wb") as file:
+        file.write(b"PK\3\4" + bytes(26) + b"[Content_Types].xml" + bytes(100))
+    return path
+
+
+def try_states(page, room, folder, name):
+    """The empty page, a part, a part on a canvas, below it the rest of the page, saving with a warning, a fault, a file that is no
+    STL."""
+    look(page, folder, f"{name}_empty")
+    page.set(50, 50)
+    page.take(example("supported"))
+    page.until("areas.length === opened.layers && !find_areas.is_running()")
+    page.value("go(150)")
+    page.k()
+    look(page, folder, f"{name}_part")
+    page.change(grid="canvas")
+    page.until(f"{IDLE} && opened.columns === 2560")
+    page.k()
+    page.value("zoom(6)")
+    look(page, folder, f"{name}_canvas")
+    page.value("by('archive').querySelector('details').open = true; document.querySelector('aside').scrollTop = 300; scrollTo(0, 1e6)")
+    look(page, folder, f"{name}_settings")
+    page.value("scrollTo(0, 0); by('busy').hidden = false; by('busy_words').textContent = 'Saving supported.sl1'; tell_progress(120, 640);"
+               "warn('A shell is inside out somewhere: 2.376 ml by positive, 6.556 ml by nonzero; look at the layers.')")
+    look(page, folder, f"{name}_saving")
+    page.value("end_wait()")
+    page.take(broken(room))
+    look(page, folder, f"{name}_fault")
+    page.take(other_kind(room))
+    look(page, folder, f"{name}_kind")
+
+
 def try_all(page, room, folder):
-    for name, size in (("desk", DESK), ("phone", PHONE)):
-        page.load(size)
-        look(page, folder, f"{name}_empty")
-        page.set(50, 50)
-        page.take(example("supported"))
-        page.until("areas.length === opened.layers")
-        page.value("go(150)")
-        page.k()
-        look(page, folder, f"{name}_part")
-        page.change(grid="canvas")
-        page.until(f"{IDLE} && opened.columns === 2560")
-        page.k()
-        page.value("zoom(6)")
-        look(page, folder, f"{name}_canvas")
-        page.take(broken(room))
-        look(page, folder, f"{name}_fault")
+    """Returns the number of pictures."""
+    for scheme in ("light", "dark"):
+        page.browser.media(prefers_color_scheme=scheme)
+        for name, how in WINDOWS.items():
+            page.load(*how)
+            try_states(page, room, folder, f"{name}_{scheme}")
+    page.browser.media()
+    return 2 * len(WINDOWS) * STATES

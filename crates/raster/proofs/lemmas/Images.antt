@@ -16,7 +16,7 @@ use Rattle.raster.specs.Image.{header, image_limit, image_of_pixels, images, ima
 use Rattle.raster.proofs.lemmas.Decimals.{length-five}
 use Rattle.raster.proofs.lemmas.Written.{IsUnderWay, all-counted, length-row, lower_rows, rows-step}
 
-length-rows : (width n : ℕ) (pixel : ℕ → ℕ → Bool) → length (lower_rows width pixel n) ≡ n * div_ceil width 8
+pub length-rows : (width n : ℕ) (pixel : ℕ → ℕ → Bool) → length (lower_rows width pixel n) ≡ n * div_ceil width 8
 length-rows width zero pixel = omega arith
 length-rows width (suc n) pixel =
     let one : length (row_bytes width (λ i. pixel i n)) ≡ div_ceil width 8 = length-row width (λ i. pixel i n) in

@@ -74,7 +74,7 @@ impl Header {
     }
 
     /// Appends a number in plain decimal.
-    // `write!` into a slice will not do: its contract in std does not say which bytes it writes.
+    // `write!` will not do: no clause of it says that it succeeds.
     fn push_decimal(&mut self, n: u32)
         requires { length self.old + length (decimal n) ≤ HEADER_LIMIT }
         ensures { self.new ≡ self.old ++ decimal n }

@@ -7,7 +7,7 @@ use Rattle.stl_text.proofs.grammar.after_solid.Goals as goal
 pub returns-clause-read : goal.returns-clause-read
 returns-clause-read c = λ unit.
     next_solid_read unit c.args.bytes.now c.in_ok-remark.remark.now c.skip_line.result.now c.as_bytes.result.now c.in_ok-name.name.now c.skip_line-inside.result.now
-    c.in_ok-remark.ensures.keyword c.in_ok-remark.ensures.rest c.skip_line.ensures.line (c.as_bytes.ensures.value ∙ c.text.ensures refl) c.in_ok-name.ensures.keyword c.in_ok-name.ensures.rest c.skip_line-inside.ensures.line
+    c.in_ok-remark.ensures.keyword c.in_ok-remark.ensures.rest c.skip_line.ensures.line (c.as_bytes.ensures.value ∙ c.text.ensures.keyword refl) c.in_ok-name.ensures.keyword c.in_ok-name.ensures.rest c.skip_line-inside.ensures.line
 
 pub returns-clause-some : goal.returns-clause-some
 returns-clause-some c = some-items c.skip_line-inside.result.now c.is_empty.result c.is_empty.ensures c.if-is_empty.false

@@ -14,7 +14,7 @@ returns-then-is_keyword-clause-read c = λ few after word_is some.
     let kind = c.in-Keyword.kind in
     let word = c.args.word.now in
     let names : NamesKeyword kind = names_keyword kind c.in-Keyword.ensures.plain in
-    let text : c.as_bytes.result.now ≡ keyword_text kind = c.as_bytes.ensures.value ∙ c.text.ensures c.in-Keyword.ensures.plain in
+    let text : c.as_bytes.result.now ≡ keyword_text kind = c.as_bytes.ensures.value ∙ c.text.ensures.keyword c.in-Keyword.ensures.plain in
     record {
       token = keyword_of kind;
       goes = (c.in-Keyword.ensures.wanted few).1 c.args.facet;
@@ -27,7 +27,7 @@ returns-else-is_keyword-clause-fault c = λ few after word_is some.
     let kind = c.in-Keyword.kind in
     let word = c.args.word.now in
     let names : NamesKeyword kind = names_keyword kind c.in-Keyword.ensures.plain in
-    let text : c.as_bytes.result.now ≡ keyword_text kind = c.as_bytes.ensures.value ∙ c.text.ensures c.in-Keyword.ensures.plain in
+    let text : c.as_bytes.result.now ≡ keyword_text kind = c.as_bytes.ensures.value ∙ c.text.ensures.keyword c.in-Keyword.ensures.plain in
     let other : is_wanted kind (first_word after) ≡ false =
     names.only (first_word after) ∙ same_keyword (keyword_text kind) (first_word after) word names.short word_is ∙ ap (λ t. is_keyword t word) (sym text) ∙ sym c.is_keyword.ensures
     ∙ c.if-is_keyword.false in

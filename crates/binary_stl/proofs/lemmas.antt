@@ -1,0 +1,7 @@
+pub mod Rounding
+pub mod Coordinates
+pub mod Decimals
+pub mod Places
+pub mod OneOutcome
+pub mod SomeOutcome
+pub mod Answer

@@ -1,0 +1,9 @@
+use Rattle.std.proofs.Common.{◌≡◌, length}
+use Rattle.binary_stl.specs.Binary.{AreFirstFacets}
+use Rattle.binary_stl.proofs.reading.read_binary.Given as goal
+
+abbrev pub invariant-loop-index : goal.invariant-loop-index
+invariant-loop-index g l = record {
+  count : length l.facets.items ≡ l.index;
+  each : AreFirstFacets l.unit l.bytes l.facets.items;
+}

@@ -1,0 +1,5 @@
+pub mod Single
+pub mod Decimal
+pub mod Binary
+pub mod BinaryFault
+pub mod Reading

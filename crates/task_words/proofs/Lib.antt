@@ -1,0 +1,6 @@
+pub mod Asked
+pub mod Matching
+pub mod Parse
+pub mod Rows
+pub mod TaskLemmas
+pub mod TextLemmas

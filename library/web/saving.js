@@ -1,0 +1,43 @@
+// Saving: a layer, the PNGs of all, or a printer's archive.
+
+const ADDING = 100; // milliseconds in which the worker adds layers before it looks for another call
+const LINKED = 60000; // milliseconds after which a saved file may be forgotten
+
+// Saves the layer of the slider.
+async function save() {
+    let k = 0;
+    const png = await asked("png", () => ({ k: k = k_now() }));
+    if (png) download(png, `${stem(opened.of.name)}_${String(k).padStart(5, "0")}.png`);
+}
+
+// Whole seconds since 1970.
+function moment() {
+    return Math.floor(Date.now() / 1000);
+}
+
+// Saves all layers as an `archive`, or as a zip of PNGs. Another call ends it, and so does another mesh.
+const save_all = latest(async (is_last, kind) => {
+    const of = opened;
+    if (!kind || !of || !by("archive").reportValidity()) return;
+    const is_archive = kind === "archive", name = `${stem(of.of.name)}${is_archive ? ".sl1" : "_pngs.zip"}`;
+    const goes_on = () => of === opened && is_last();
+    begin_wait(`Saving ${name}`);
+    try {
+        await slicer.call("begin_zip", { name: is_archive ? name : null, given: archive_now(), now: moment() });
+        for (let done = 0; goes_on() && done < of.layers; tell_progress(done, of.layers))
+            done = await slicer.call("add_layers", { milliseconds: ADDING });
+        if (goes_on()) download(await slicer.call("whole_zip"), name);
+    } catch (fault) {
+        if (of === opened) fault.stopped ? refused(fault, of.of) : warn(`${name} is not saved: ${fault.message}`);
+    } finally {
+        end_wait();
+    }
+});
+
+function download(blob, name) {
+    const link = element("a");
+    link.href = URL.createObjectURL(blob);
+    link.download = name;
+    link.click();
+    setTimeout(() => URL.revokeObjectURL(link.href), LINKED);
+}

@@ -1,0 +1,202 @@
+"""What the page saves of all layers beside what the commands make: every entry's bytes, and the heads of the zip; and settings
+for printers that the page does not place parts for."""
+
+import json
+import os
+import random
+import shutil
+import subprocess
+import sys
+import zipfile
+from fractions import Fraction
+from types import SimpleNamespace
+
+from common import IDLE, ROOT, SECONDS, example, holds, same
+from files import binary_of, gear, turned_out
+from measure import ring_of
+
+sys.path.append(os.path.join(ROOT, "commands"))
+
+MOMENT = 1795000001  # odd: a zip has even seconds
+NUMBERS = 100000
+SETTINGS = 400
+
+
+def cases(room):
+    """A part, what is filled into the form, and the same words for the command."""
+    ring, binary = os.path.join(room, "a ring, 1.stl"), os.path.join(room, "gear.stl")
+    ring_of(60000, ring)
+    with open(binary, "wb") as file:
+        file.write(binary_of(gear()))
+    usual = {"pitch": 50, "height": 50, "columns": 2560, "rows": 1620}
+    own = {"exposure": "7.125", "first_exposure": "30.5", "fade": 3, "material": "Tough,  blue\u00e9"}
+    return [
+        (example("supported"), {**usual, "height": 100}, [], {}),
+        (example("bracket"), {"pitch": 100, "height": 1000, "columns": 701, "rows": 403}, ["--mirror-x", "--mirror-y", "--exposure", "7.125",
+         "--first-exposure", "30.5", "--fade", "3", "--material", own["material"]], {"mirror_x": True, "mirror_y": True, **own}),
+        (example("bracket"), {"pitch": 610, "height": 3330, "columns": 540, "rows": 210, "unit": 2}, ["--unit", "cm"], {}),
+        (example("supported"), {"pitch": 19, "height": 500, "columns": 11520, "rows": 5120}, ["--mirror-y"], {"mirror_y": True}),
+        (binary, {**usual, "height": 500}, [], {}),
+        (ring, {**usual, "height": 400}, ["--rule", "nonzero"], {"rule": 1}),
+    ]
+
+
+def fill(page, fields):
+    """Fills fields as a hand does, those of the archive too."""
+    words = []
+    for name, value in fields.items():
+        what = "checked" if isinstance(value, bool) else "selectedIndex" if name in ("rule", "unit") else "value"
+        words.append(f"by({json.dumps(name)}).{what} = {json.dumps(value)}")
+    page.value("; ".join([*words, "by('archive').dispatchEvent(new Event('change'))", "0"]))
+
+
+def command(program, name, part, output, words):
+    words = [sys.executable, os.path.join(ROOT, "commands", name), "--program", program, "--workers", "4", *words, part, output]
+    ran = subprocess.run(words, env={**os.environ, "SOURCE_DATE_EPOCH": str(MOMENT)}, capture_output=True, text=True)
+    same(f"status of {words}: {ran.stderr}", ran.returncode, 0)
+
+
+def words_of(fields):
+    return ["--canvas", f"{fields['columns']}x{fields['rows']}", "--pitch", str(fields["pitch"]), "--layer", str(fields["height"])]
+
+
+def head_of(entry):
+    return (entry.filename, entry.date_time, entry.create_system, entry.create_version, entry.extract_version, entry.external_attr,
+            entry.flag_bits, entry.compress_type, entry.CRC, entry.file_size)
+
+
+def same_archive(what, found, wanted):
+    with zipfile.ZipFile(found) as mine, zipfile.ZipFile(wanted) as theirs:
+        same(f"heads of {what}", [head_of(it) for it in mine.infolist()], [head_of(it) for it in theirs.infolist()])
+        for name in theirs.namelist():
+            same(f"{name} of {what}", mine.read(name), theirs.read(name))
+        return len(theirs.namelist())
+
+
+def opened_in(page, part, fields, own):
+    page.load()
+    page.value(f"moment = () => {MOMENT}; 0")
+    fill(page, {"rule": 2, "unit": 0, **fields, **own, "grid": "canvas"})
+    page.value("lay_form()")
+    page.take(part)
+    holds(f"{part} is opened: {page.text('fault_line')}", page.value("opened !== null"))
+
+
+def try_archives(page, room, program, every):
+    entries = 0
+    for part, fields, words, own in every:
+        opened_in(page, part, fields, own)
+        name = f"{os.path.basename(part)[:-4]}.sl1"
+        wanted = os.path.join(room, name)
+        rule = ["--rule", "positive"] if "--rule" not in words else []
+        command(program, "stlslice-sl1", part, wanted, [*words_of(fields), *words, *rule])
+        entries += same_archive(f"{name} {fields}", page.saved(name, "save_archive"), wanted)
+        os.remove(wanted)
+    return f"{len(every)} archives with {entries} entries, each as stlslice-sl1 writes it"
+
+
+def try_pngs(page, room, program):
+    """A zip of PNGs has what `stlslice-pngs` puts into a folder."""
+    fields = {"pitch": 100, "height": 500, "columns": 640, "rows": 480}
+    opened_in(page, example("bracket"), fields, {})
+    folder = os.path.join(room, "pngs")
+    command(program, "stlslice-pngs", example("bracket"), folder, words_of(fields))
+    with zipfile.ZipFile(page.saved("bracket_pngs.zip", "save_pngs")) as found:
+        same("the names of PNGs", found.namelist(), sorted(os.listdir(folder)))
+        for name in found.namelist():
+            with open(os.path.join(folder, name), "rb") as file:
+                same(name, found.read(name), file.read())
+    shutil.rmtree(folder)
+
+
+def try_stop(page):
+    """Saving can be stopped, and the part is still there; a part that is chosen meanwhile ends it too."""
+    opened_in(page, example("supported"), {"pitch": 19, "height": 10, "columns": 11520, "rows": 5120}, {})
+    for name in os.listdir(page.browser.saved):
+        os.remove(os.path.join(page.browser.saved, name))
+    for ending in ("by('stop').click()", "by('pitch').value = 20; by('form').dispatchEvent(new Event('change'))"):
+        page.value("by('save_archive').click()")
+        page.until("!by('busy').hidden && parseFloat(by('done').style.width) > 0", SECONDS)
+        holds("layers are shown meanwhile", page.value("by('layer').value = 7; show().then(() => shown.k)") == 7)
+        page.value(f"{ending}; 0")
+        page.until(f"!save_all.is_running() && {IDLE}")
+        same("what was saved", os.listdir(page.browser.saved), [])
+        holds("the part is still there", page.value("opened !== null && by('fault').hidden"))
+
+
+def try_dark(page, room):
+    """An archive of which no pixel is lit is refused, as by the command."""
+    with open(example("bracket"), "rb") as file:
+        text = turned_out(file.read())
+    path = os.path.join(room, "dark.stl")
+    with open(path, "wb") as file:
+        file.write(text)
+    opened_in(page, path, {"pitch": 500, "height": 500, "columns": 100, "rows": 100}, {})
+    page.value("by('save_archive').click()")
+    page.until("by('warnings').textContent.includes('dark.sl1 is not saved: no pixel is lit')")
+
+
+def numbers():
+    """Numbers of many sizes, and exact halves of the last digit that is written."""
+    draw = random.Random(54)
+    for _ in range(NUMBERS // 4):
+        yield draw.random() * 10.0 ** draw.randint(-6, 9)
+        yield draw.randint(0, 10 ** draw.randint(1, 9)) / 2 ** draw.randint(0, 30)
+        yield draw.randint(0, 10 ** 9) / 10 ** draw.randint(0, 9)
+        yield (2 * draw.randint(0, 10 ** 7) + 1) * 5.0 ** draw.randint(0, 3) / 2 ** draw.randint(0, 12)
+
+
+def try_numbers(page):
+    """Numbers are written as Python writes them."""
+    every = list(numbers())
+    for at in range(0, len(every), 20000):
+        some = every[at:at + 20000]
+        found = page.in_worker(f"{json.dumps(some)}.map((it) => [general(it), general(it, 10), fixed(it)].join(' ')).join()")
+        same("numbers", found.split(","), [f"{it:g} {it:.10g} {it:.6f}" for it in some])
+
+
+def try_settings(page):
+    """Settings files of the printers that are known by name, and of other screens, are the command's."""
+    from stlslice_commands import printers, sl1
+    draw, known = random.Random(7), list(printers.printers().values())
+    every, wanted = [], []
+    for _ in range(SETTINGS):
+        printer = draw.choice([None, *known])
+        sides = printer.pitch() if printer else tuple(Fraction(draw.randint(1, 100000), draw.choice([1, 10, 100, 1000])) for _ in "xy")
+        canvas = printer.canvas() if printer else (draw.randint(1, 16384), draw.randint(1, 16384))
+        given = SimpleNamespace(
+            printer=printer, canvas=canvas, pitch=sides, layer=draw.randint(1, 1000), mirror_x=draw.random() < 0.5,
+            mirror_y=draw.random() < 0.5, exposure=round(draw.uniform(0.1, 99), draw.randint(0, 6)), fade=draw.randint(0, 60),
+            first_exposure=round(draw.uniform(0.1, 999), draw.randint(0, 6)),
+            fast_tilt=draw.choice([5.0, 2.5]), slow_tilt=8.0, area_fill=50)
+        layers, lit = draw.randint(1, 3000), draw.randint(0, 16384 ** 2 * 3000)
+        volume = float(lit * sides[0] * sides[1] * given.layer / 10 ** 12)
+        sliced = SimpleNamespace(given=given, layers=layers, lit=lit, millilitres=lambda _, volume=volume: volume)
+        slow, job = draw.randint(0, layers), sl1.job_name("out of \u00e9.sl1")
+        material = draw.choice(["", "  a\tb ", "Gr\u00fcn \x7f\u0085x"])
+        given.material = sl1.one_line(material)
+        texts = [sl1.settings(sliced, job, slow, sl1.print_time(given, layers, slow), sl1.time.gmtime(MOMENT)), sl1.profile(given)]
+        wanted.append(["".join(f"{key} = {value}\n" for key, value in sorted(it.items())) for it in texts])
+        row = printer and {"model": printer.model, "name": printer.name, "orientation": "portrait" if printer.is_portrait else "landscape"}
+        every.append({"given": {**vars(given), "printer": row, "pitch": [decimal(it) for it in sides], "material": material},
+                      "layers": layers, "lit": lit, "slow": slow, "now": MOMENT})
+    told = page.in_worker(f"{json.dumps(every)}.map((it) => [settings({{ ...it, job: job_of('out of \u00e9.SL1') }}), profile(it.given)])")
+    for one, other in zip(told, wanted):
+        same("settings", one, other)
+
+
+def decimal(length):
+    """A length as its exact decimal."""
+    digits = f"{int(length * 10 ** 6):07}"
+    same("the length", Fraction(int(digits), 10 ** 6), length)
+    return f"{digits[:-6]}.{digits[-6:]}".rstrip("0").rstrip(".")
+
+
+def try_all(page, room, program, every):
+    told = try_archives(page, room, program, every)
+    try_pngs(page, room, program)
+    try_stop(page)
+    try_dark(page, room)
+    try_numbers(page)
+    try_settings(page)
+    return told

@@ -1,0 +1,234 @@
+"""What people drop on the page: binary files, files that are no STL, several at once, other units, parts that are inside out."""
+
+import base64
+import gzip
+import math
+import os
+import re
+import struct
+import subprocess
+import zipfile
+
+from common import IDLE, ROOT, area_of, example, holds, images_of, same, script
+
+
+def shortest(number):
+    """The shortest decimal that reads back as a number of single precision."""
+    return next(word for word in (f"{number:.{digits}g}" for digits in range(1, 10)) if single(float(word)) == number)
+
+
+def single(number):
+    return struct.unpack("<f", struct.pack("<f", number))[0]
+
+
+def text_of(facets, word=shortest):
+    """Facets of nine numbers as a text, with the shortest decimals or other words."""
+    lines = ["solid"]
+    for facet in facets:
+        corners = (" ".join(map(word, facet[at:at + 3])) for at in (0, 3, 6))
+        lines += ["facet normal 0 0 0 outer loop", *(f"vertex {it}" for it in corners), "endloop endfacet"]
+    return "\n".join([*lines, "endsolid", ""]).encode()
+
+
+def half_micrometres(word):
+    """A number near a text's, of single precision, whose shortest decimal lies between two micrometres."""
+    return single(round(float(word) * 4) / 4 + 0.0005)
+
+
+def written(program, text, *words):
+    return subprocess.run([program, *words], input=text, capture_output=True, check=True).stdout
+
+
+def gear():
+    """The facets of an example, nine numbers each, of which many lie between two micrometres."""
+    with open(example("helical_gear"), encoding="ascii") as file:
+        words = file.read().split()
+    numbers = [half_micrometres(words[at + it]) for at, word in enumerate(words) if word == "vertex" for it in (1, 2, 3)]
+    return [numbers[at:at + 9] for at in range(0, len(numbers), 9)]
+
+
+def binary_of(facets):
+    head = b"solid but binary".ljust(80) + struct.pack("<I", len(facets))
+    return head + b"".join(struct.pack("<12fH", 0, 0, 0, *facet, 0) for facet in facets)
+
+
+def try_binary(page, room, program):
+    """A binary STL is the text with the shortest decimals of its numbers; a bad number is reported with its facet."""
+    facets, binary = gear(), os.path.join(room, "binary.stl")
+    with open(binary, "wb") as file:
+        file.write(binary_of(facets))
+    page.load()
+    page.set(50, 100)
+    page.take(binary)
+    text = text_of(facets)
+    box = written(program, text, "--box")
+    holds("the box would be another with all digits", written(program, text_of(facets, repr), "--box") != box)
+    same("the box of a binary file", page.value("[...opened.low, ...opened.high]"), list(map(int, box.split()[3:])))
+    same("images of a binary file", base64.b64decode(page.in_worker(script("all_layers"))["images"]),
+         written(program, text, "--pitch", "50", "--layer", "100", "--rule", "positive"))
+    holds("the page says that the file is binary", "from a binary file" in page.text("facts"))
+    with open(binary, "r+b") as file:
+        file.seek(84 + 50 * 6 + 12)
+        file.write(struct.pack("<f", math.nan))
+    page.take(binary)
+    holds("a number that is none is reported", "not a number" in page.text("fault_line"))
+    holds("with its facet", page.text("fault_place").startswith("Facet 7 of the file"))
+
+
+# Files that are no STL: what the page says of each first
+KINDS = {
+    "part.3mf": ("3MF, and no STL", "prusa-slicer --export-stl --output part.stl part.3mf"),
+    "part.zip": ("zip, and no STL", "unzip part.zip"),
+    "part.stl.gz": ("gzip, and no STL", "zcat part.stl.gz > part.stl"),
+    "packed.stl": ("gzip, and no STL", "zcat packed.stl > packed-2.stl"),
+    "other.stl": ("OBJ, and no STL", "cp other.stl other.obj && assimp export other.obj other-2.stl"),
+    "my part.obj": ("OBJ, and no STL", "assimp export 'my part.obj' 'my part.stl'"),
+    "part.ply": ("PLY, and no STL", "assimp export part.ply part.stl"),
+    "part.off": ("OFF, and no STL", "assimp export part.off part.stl"),
+    "part.amf": ("AMF, and no STL", "prusa-slicer --export-stl --output part.stl part.amf"),
+    "part.step": ("STEP, and no STL", "FreeCAD"),
+    "part.glb": ("glTF, and no STL", "Blender"),
+    "-part.gcode": ("G-code, and no STL", "made for one printer"),
+    "part.html": ("A web page, and no STL", "Download the part itself"),
+    "part.png": ("A picture or document, and no STL", "no part in it"),
+    "cut.stl": ("A binary STL that is not whole, or another kind of file", "12 facets, which take 684 bytes"),
+    "mark.stl": ("Byte order mark", "sed"), "wide.stl": ("UTF-16", "iconv"),
+}
+
+
+def bodies():
+    """What the files have in them."""
+    with open(example("bracket"), "rb") as file:
+        text = file.read()
+    return {
+        "part.3mf": zipped("[Content_Types].xml"), "part.zip": zipped("part.stl"), "part.stl.gz": gzip.compress(text),
+        "packed.stl": gzip.compress(text), "other.stl": b"\nvn 0 0 1\n",
+        "my part.obj": b"# by hand\nv 0 0 0\n", "part.ply": b"ply\nformat ascii 1.0\n", "part.off": b"OFF\n8 6 0\n",
+        "part.amf": b'<?xml version="1.0"?>\n<amf unit="millimeter">', "part.step": b"ISO-10303-21;\nHEADER;\n",
+        "part.glb": b"glTF\2\0\0\0", "-part.gcode": b"; sliced\nG28 \nG1 X0\n", "part.html": b"<!DOCTYPE html>\n<html>",
+        "part.png": b"\x89PNG\r\n\x1a\n", "cut.stl": bytes(80) + struct.pack("<I", 12) + bytes(500),
+        "mark.stl": b"\xef\xbb\xbf" + text, "wide.stl": text.decode().encode("utf-16"),
+    }
+
+
+def zipped(name):
+    path = os.path.join(os.environ.get("TMPDIR", "/tmp"), f"stlslice-{os.getpid()}.zip")
+    with zipfile.ZipFile(path, "w") as file:
+        file.writestr(name, "")
+    with open(path, "rb") as file:
+        data = file.read()
+    os.remove(path)
+    return data
+
+
+def try_kinds(page, room):
+    """A file that is no STL is refused with the library's line; what it is, and what to do on each system, comes first."""
+    page.load()
+    for name, body in bodies().items():
+        path = os.path.join(room, name)
+        with open(path, "wb") as file:
+            file.write(body)
+        page.take(path)
+        title, words = KINDS[name]
+        holds(f"the line of {name}: {page.text('fault_line')}", page.text("fault_line").startswith("expected solid at byte "))
+        same(f"the first hint of {name}", page.value("by('hints').querySelector('summary').textContent"), title)
+        told = page.value("by('hints').querySelector('details').textContent")
+        holds(f"{told!r} says {words!r}", words in told)
+        if title.endswith(", and no STL") and name not in ("-part.gcode", "part.html", "part.png"):
+            same(f"the systems that {told!r} names", [it in told for it in ("Windows", "macOS", "Linux")], 3 * [True])
+
+
+def try_first_hints(page, room):
+    """The word that does not fit tells which hint comes first."""
+    page.load()
+    with open(example("bracket"), encoding="ascii") as file:
+        text = file.read()
+    for old, new, title in (
+            ("facet normal", "# a remark\nfacet normal", "Comments"), ("facet normal", "solid two\nfacet normal", "Several solids"),
+            ("endloop", "end loop", "Keywords in two words"), ("vertex 1.", "vertex 1,", "Decimal commas"),
+            ("vertex ", "vertex 1.5D+01 ", "Exponents with D"), ("vertex ", "vertex nan ", "nan or inf"),
+            ("endloop", "vertex 0 0 0\nendloop", "Facets of four"), ("endfacet", "", "A facet that is not closed"),
+            (text[30000:], "", "The file was cut")):
+        changed = text.replace(old, new, 1)
+        path = os.path.join(room, "spoiled.stl")
+        with open(path, "w", encoding="ascii") as file:
+            file.write(changed)
+        page.take(path)
+        holds(f"the first hint for {page.text('fault_line')} at {page.text('fault_place')}, {title}",
+              page.value("by('hints').querySelector('summary').textContent").startswith(title))
+    titles = page.value("[...TELLING.map(([, it]) => it), ...Object.values(OF_KINDS), 'The file was cut']")
+    known = page.value("data.hints.map((it) => it.title)")
+    same("hints that are named but not there", [it for it in titles if it not in known], [])
+
+
+def try_several(page):
+    """Of several files that are dropped, the first STL is shown, and it is said which."""
+    page.load()
+    page.browser.drop([os.path.join(ROOT, "README.md"), example("supported"), example("bracket")], *page.middle("#image"))
+    page.until(IDLE)
+    same("the part that is shown", page.text("name"), "supported.stl")
+    holds(page.text("warnings"), "3 files were dropped: this is supported.stl. Left out: README.md, bracket.stl" in page.text("warnings"))
+    page.take(example("bracket"))
+    same("what is said of one file", page.text("warnings"), "")
+
+
+def try_units(page, room, program):
+    """Numbers in cm and m are multiplied exactly; the images are those of `stlslice-sl1`'s unit."""
+    with open(example("bracket"), "rb") as file:
+        text = file.read()
+    for unit, power, pitch in ((2, 1, 1000), (3, 3, 50000)):
+        page.load()
+        page.set(pitch, pitch, unit=unit)
+        page.take(example("bracket"))
+        page.until("areas.length === opened.layers")
+        times = re.sub(rb"(?<=\s)(-?\d+\.?\d*)e?([-+]\d+)?(?=\s)", lambda it: b"%se%d" % (it[1], int(it[2] or 0) + power), text)
+        wanted = written(program, times, "--pitch", str(pitch), "--layer", str(pitch), "--rule", "positive")
+        same(f"images in unit {unit}", base64.b64decode(page.in_worker(script("all_layers"))["images"]), wanted)
+    holds(page.text("warnings"), "is m the unit of its numbers?" in page.text("warnings"))
+    path = os.path.join(room, "spoiled.stl")
+    with open(path, "wb") as file:
+        file.write(text[:20000].replace(b"endloop", b"endlop")[:19000])
+    page.take(path)
+    with open(path, "rb") as file:
+        line = subprocess.run([program, "--box"], stdin=file, capture_output=True).stderr.decode()
+    same("the fault of a text in m", f"stlslice: {page.text('fault_line')}\n", line)
+
+
+def turned_out(text):
+    """The text with each facet's corners in the other order."""
+    return re.sub(rb"(?m)(vertex[^\n]*\n)(\s*vertex[^\n]*\n)(\s*vertex[^\n]*\n)", rb"\1\3\2", text)
+
+
+def try_inside_out(page, room, program):
+    """A part that is dark, or has a shell that is inside out, is warned of, with the commands' figures."""
+    with open(example("calibration_block"), "rb") as file:
+        whole = file.read()
+    with open(example("bracket"), "rb") as file:
+        other = file.read()
+    page.load()
+    for name, text in (("dark", turned_out(whole)), ("partly", whole + turned_out(other)), ("right", whole)):
+        path = os.path.join(room, f"{name}.stl")
+        with open(path, "wb") as file:
+            file.write(text)
+        page.set(200, 200)
+        page.take(path)
+        page.until("areas.length === opened.layers && !find_areas.is_running()")
+        told = page.text("warnings")
+        if name == "dark":
+            holds(told, told.startswith("No pixel is lit by positive: is the part inside out (try nonzero)"))
+        elif name == "partly":
+            lit = [sum(map(area_of, images_of(program, path, "--pitch", "200", "--layer", "200", "--rule", rule)[0]))
+                   for rule in ("positive", "nonzero")]
+            positive, nonzero = (f"{it * 200 ** 3 / 1e12:.3f}" for it in lit)
+            holds(f"{told} {lit}", f"A shell is inside out somewhere: {positive} ml by positive, {nonzero} ml by nonzero" in told)
+        else:
+            same("what is said of a part that is right", told, "")
+
+
+def try_all(page, room, program):
+    try_binary(page, room, program)
+    try_kinds(page, room)
+    try_first_hints(page, room)
+    try_several(page)
+    try_units(page, room, program)
+    try_inside_out(page, room, program)

@@ -1,0 +1,236 @@
+"""The page for hands and eyes: buttons, swipes, scrolling, the keyboard alone, colours, what is kept, the command."""
+
+import json
+import shlex
+
+from common import IDLE, PHONE, example, holds, same, script
+
+TWICE = (195, 422), (720, 450), (512, 350)  # PHONE, DESK and 1024 x 700 at 200 %
+SHIFT = 8
+# The contrast of two colours of style.css, as WCAG 2 defines it
+CONTRAST = """((one, other) => {
+    const linear = (it) => it / 255 <= 0.04045 ? it / 255 / 12.92 : ((it / 255 + 0.055) / 1.055) ** 2.4;
+    const light = (name) => colour_of(name).map(linear).reduce((sum, it, at) => sum + it * [0.2126, 0.7152, 0.0722][at], 0.05);
+    return Math.max(light(one), light(other)) / Math.min(light(one), light(other));
+})(%s, %s)"""
+PAIRS = [("rim", "ground", 3), ("rim", "body", 3), ("hole", "ground", 3), ("hole", "body", 3), ("ground", "body", 3),
+         ("edge", "sheet", 3), ("ink", "sheet", 4.5), ("quiet", "sheet", 4.5), ("quiet", "back", 4.5), ("mark", "sheet", 3),
+         ("on-mark", "mark", 4.5), ("bad", "bad-back", 4.5), ("ink", "warn-back", 4.5)]
+
+
+def opened_bracket(page, *how):
+    page.load(*how)
+    page.set(100, 100)
+    page.take(example("bracket"))
+    return page.k()
+
+
+def try_buttons(page):
+    k = opened_bracket(page)
+    for name, wanted in (("up", k + 1), ("up", k + 2), ("down", k + 1)):
+        page.browser.click(*page.middle(f"#{name}"))
+        same(f"layer after the button {name}", page.k(), wanted)
+
+
+def try_swipe(page):
+    """A finger that swipes over the picture moves the layers; over a zoomed picture it moves that. Down it scrolls the page."""
+    page.browser.ask("Emulation.setTouchEmulationEnabled", enabled=True, maxTouchPoints=2)
+    k = opened_bracket(page, PHONE)
+    x, y = page.middle("#image")
+    page.browser.swipe((x - 60, y), (x + 60, y))
+    holds(f"layers after a swipe: {k} to {page.k()}", 8 <= page.k() - k <= 12)
+    k = page.k()
+    page.browser.swipe((x + 60, y), (x - 60, y))
+    holds("layers after a swipe back", 8 <= k - page.k() <= 12)
+    k = page.k()
+    page.browser.swipe((x, y + 100), (x, y - 100))
+    page.until("scrollY > 20")
+    same("the layer after a swipe upwards", page.k(), k)
+    page.value("scrollTo(0, 0); zoom(4)")
+    page.browser.swipe((x - 60, y), (x + 60, y))
+    same("the layer after a swipe over a zoomed picture", page.k(), k)
+    holds("which has moved it", page.value("look.x > 20"))
+    page.browser.ask("Emulation.setTouchEmulationEnabled", enabled=False)
+
+
+def try_scrolling(page):
+    """In a small window picture and slider are seen together; wheel and keys scroll the page, unless the picture is in use."""
+    for size in (PHONE, *TWICE):
+        k = opened_bracket(page, size)
+        page.value("document.activeElement.blur(); scrollTo(0, 0)")
+        bottom = page.value("Math.max(...['image', 'layer'].map((id) => by(id).getBoundingClientRect().bottom))")
+        holds(f"picture and slider in a window of {size}: {bottom}", bottom <= size[1])
+        holds(f"the picture's height: {page.value('by(`image`).clientHeight')}", page.value("by('image').clientHeight >= 70"))
+        x, y = page.middle("#image")
+        page.browser.mouse("mouseWheel", x, y, deltaX=0, deltaY=60)
+        page.until("scrollY > 0")
+        page.value("scrollTo(0, 0)")
+        page.browser.key("PageDown")
+        page.until("scrollY > 0")
+        same("the layer after scrolling", page.k(), k)
+        page.value("scrollTo(0, 0)")
+        page.browser.click(*page.middle("#image"))
+        page.browser.mouse("mouseWheel", x, y, deltaX=0, deltaY=-100)
+        same("the layer after the wheel over a picture in use", page.k(), k + 1)
+        page.browser.key("PageDown")
+        same("the layer after a key", page.k(), k - 9)
+        page.value("go(0)")
+        page.k()
+        page.browser.mouse("mouseWheel", x, y, deltaX=0, deltaY=60)
+        page.until("scrollY > 0")  # beyond the last layer it scrolls the page
+
+
+def try_keyboard(page):
+    """With the keyboard alone: choose, slice, look, save. The file's window is the browser's own, so the file is handed in."""
+    page.load()
+    page.browser.key("Tab")
+    same("what the first Tab comes to", page.value("document.activeElement.id"), "file")
+    page.take(example("bracket"))
+    k = page.k()
+    same("where the keys go on", page.value("document.activeElement.id"), "image")
+    page.browser.key("ArrowUp")
+    same("the layer", page.k(), k + 1)
+    for _ in range(3):
+        page.browser.key("+", "Equal", "+")
+    for key, wanted in (("ArrowRight", [-60, 0]), ("ArrowDown", [-60, -60]), ("ArrowLeft", [0, -60]), ("ArrowUp", [0, 0])):
+        page.browser.key(key, modifiers=SHIFT)
+        same(f"where the picture is after {key}", page.value("[look.x, look.y]"), wanted)
+    for _ in range(60):
+        page.browser.key("ArrowRight", modifiers=SHIFT)
+    holds("the picture is not lost", page.value("look.x + framed().scale * opened.columns / 2 > -by('image').clientWidth / 2"))
+    page.browser.key("0", "Digit0", "0")
+    seen = set()
+    for _ in range(40):
+        page.browser.key("Tab")
+        seen.add(page.value("document.activeElement.id"))
+        outline = page.value("document.activeElement === document.body || document.activeElement.matches('#file') "
+                             "|| getComputedStyle(document.activeElement).outlineStyle !== 'none'")
+        holds(f"{page.value('document.activeElement.id')} shows that it has the focus", outline)
+    wanted = {"pitch", "height", "rule", "unit", "grid", "save_pngs", "copy", "file", "outlines", "nearer", "farther", "whole", "save",
+              "down", "layer", "up"}
+    same("what Tab does not come to", wanted - seen, set())
+
+
+def try_colours(page):
+    """Outlines stand out on filled and empty pixels, and words on what is below them, in both schemes."""
+    for scheme in ("light", "dark"):
+        page.browser.media(prefers_color_scheme=scheme)
+        opened_bracket(page)
+        for one, other, least in PAIRS:
+            found = page.value(CONTRAST % (json.dumps(one), json.dumps(other)))
+            holds(f"{scheme}: the contrast of {one} on {other}, {found:.2f}", found >= least)
+        # in the picture's corner, and in the middle of the part
+        dots = page.value("""(() => {
+            by("outlines").checked = false;
+            draw();
+            const { scale, left, top } = framed(), pen = by("image").getContext("2d");
+            const dot = (i, j) => [...pen.getImageData(left + (i + 0.5) * scale, top + (j + 0.5) * scale, 1, 1).data].slice(0, 3);
+            const bits = bits_now(), at = bits.findIndex((it) => it), empty = bits.findIndex((it) => !it), { columns } = opened;
+            by("outlines").checked = true;
+            return [dot(at % columns, Math.floor(at / columns)), dot(empty % columns, Math.floor(empty / columns))];
+        })()""".replace("bits_now()", json.dumps(page.in_worker("[...bits_of(shape.layers / 2 | 0)].flatMap((byte, at) => "
+                        "Array.from({ length: Math.min(8, shape.columns - 8 * (at % row_bytes())) }, (_, bit) => byte >> 7 - bit & 1))"))))
+        same(f"the dots that are drawn: {scheme}", dots, page.value("[colour_of('body'), colour_of('ground')]"))
+    page.browser.media(prefers_color_scheme="light")
+    page.until("getComputedStyle(document.body).backgroundColor === 'rgb(238, 241, 245)'")
+    page.k()
+    animation = "(by('busy').hidden = false, getComputedStyle(by('done')).animationName)"
+    same("the bar's motion", page.value(animation), "go")
+    page.browser.media(prefers_color_scheme="light", prefers_reduced_motion="reduce")
+    same("the bar's motion if less is wanted", page.value(animation), "none")
+    page.browser.media()
+
+
+def try_kept(page):
+    """What is set in the form is there again at the next visit; what is no value of a field is not taken."""
+    page.load()
+    page.change(pitch=40, height=25, grid="canvas", columns=800, rows=600)
+    page.value("by('exposure').value = '3.5'; by('mirror_y').checked = true; by('archive').dispatchEvent(new Event('change'))")
+    page.value("by('outlines').click()")
+    page.load(is_kept=True)
+    ids = ["pitch", "height", "grid", "columns", "rows", "exposure"]
+    same("what was kept", page.value(f"{json.dumps(ids)}.map((id) => by(id).value)"), ["40", "25", "canvas", "800", "600", "3.5"])
+    same("boxes that were kept", page.value("['mirror_x', 'mirror_y', 'outlines'].map((id) => by(id).checked)"), [False, True, False])
+    holds("the canvas is seen", page.value("!by('columns').disabled && by('columns').checkVisibility()"))
+    for text in ('{"pitch": "-5", "height": "x", "rule": "9", "grid": 3}', "no JSON", "[]", "null"):
+        page.value(f"localStorage.setItem('stlslice', {json.dumps(text)})")
+        page.load(is_kept=True)
+        same(f"the form after {text}", page.value("['pitch', 'height', 'rule', 'grid'].map((id) => by(id).value)"), ["50", "50", "2", "fitted"])
+    denied = "Object.defineProperty(window, 'localStorage', { get() { throw new Error('denied'); } })"
+    number = page.browser.ask("Page.addScriptToEvaluateOnNewDocument", source=denied)["identifier"]
+    page.load(is_kept=True)
+    page.browser.ask("Page.removeScriptToEvaluateOnNewDocument", identifier=number)
+    page.set(500, 500)
+    page.change(height=500)
+    page.take(example("bracket"))
+    same("a page without storage", page.value("opened.layers"), 54)
+
+
+def try_command(page, program):
+    """The command that is copied names the part, and makes the same."""
+    opened_bracket(page)
+    page.change(unit=1, height=500)
+    page.until(f"{IDLE} && opened.options.unit === 1 && opened.options.layer === 500")
+    same("the command of a part", page.text("command").strip(), "stlslice --pitch 100 --layer 500 --rule positive --unit inch < bracket.stl")
+    names = {"a b's.stl": "'a b'\\''s.stl'", "-x.stl": "./-x.stl", "plain.stl": "plain.stl"}
+    same("names in a command", page.value(f"{json.dumps(list(names))}.map(named)"), list(names.values()))
+    same("words of a shell", [shlex.split(it)[0] for it in names.values()], ["a b's.stl", "./-x.stl", "plain.stl"])
+    page.change(unit=0, grid="canvas", columns=800, rows=600)
+    page.until(f"{IDLE} && opened.columns === 800")
+    page.value("by('mirror_x').checked = true; by('material').value = 'a b'; by('archive').dispatchEvent(new Event('change'))")
+    same("the command of a canvas", page.text("command").strip(), "stlslice-sl1 --pitch 100 --layer 500 --rule positive --canvas 800x600 "
+         "--mirror-x --material 'a b' bracket.stl bracket.sl1")
+    same("the program's own word for a grid is not needed", "--grid" in page.text("command"), False)
+    try_copy(page)
+
+
+def try_copy(page):
+    """It is said whether the command was copied."""
+    page.value("Object.defineProperty(navigator, 'clipboard', { value: { writeText: async (it) => { globalThis.clip = it; } } }); 0")
+    page.value("by('copy').click()")
+    page.until("by('copied').textContent === 'copied'")
+    same("what was copied", page.value("clip"), page.text("command").strip())
+    page.value("navigator.clipboard.writeText = async () => { throw new Error('denied'); }; by('copy').click()")
+    page.until("by('copied').textContent.startsWith('not copied')")
+    same("what is marked then", page.value("getSelection().toString().replace(/\\s+/g, ' ').trim()"), page.text("command").strip())
+
+
+def try_latest(page):
+    """Of the calls while a task runs only the last counts, and tasks run one at a time."""
+    page.load()
+    told = page.value("""(async () => {
+        const done = [], ends = [];
+        const task = latest(async (is_last, word) => {
+            await new Promise((end) => ends.push(end));
+            done.push([word, is_last()]);
+        });
+        const all = [task(1), task(2), task(3)];
+        for (let k = 0; k < 2; k++) {
+            await new Promise((next) => setTimeout(next));
+            ends[k]();
+        }
+        await Promise.all(all);
+        done.push(task.is_running());
+        task(4);
+        ends[2]();
+        await new Promise((next) => setTimeout(next));
+        return [...done, ends.length];
+    })()""")
+    same("what ran", told, [[1, False], [3, True], False, [4, True], 3])
+
+
+def try_pictures(page):
+    page.load()
+    same("what is wrong with pictures", page.in_worker(script("pictures")), [])
+
+
+def try_all(page, program):
+    try_latest(page)
+    try_pictures(page)
+    try_buttons(page)
+    try_swipe(page)
+    try_scrolling(page)
+    try_keyboard(page)
+    try_colours(page)
+    try_kept(page)
+    try_command(page, program)

@@ -1,0 +1,93 @@
+"""The commands on a full disk, which is a small file system of the test's own: one line, status 1, and what was there before
+stays. GNU parallel doesn't look at its own writes, so stlslice-slabs has to."""
+
+import os
+import shutil
+
+from as_installed import PAGE, PNGS, SL1, SLABS, slicer
+from common import Case, example, needs, same, skip
+
+BRACKET = example("bracket.stl")
+FULL = "No space left on device"
+LAYER = 13 + 1000 * 125  # bytes of an image of 1000 x 1000 pixels
+LARGE = ["--canvas", "900x900", "--pitch", "50"]
+
+
+class FullDisk(Case):
+    def setUp(self):
+        super().setUp()
+        self.disk, self.out = self.room.file("disk"), self.room.file("disk", "out")
+        os.mkdir(self.disk)
+        ran = self.room.run("mount", "-t", "tmpfs", "-o", f"size={1 << 20}", "stlslice-test", self.disk)
+        if ran.status:
+            skip(f"a small file system can't be mounted here: {ran.fault.strip()}")
+        self.addCleanup(self.room.out, "umount", self.disk)
+
+    def leave(self, size):
+        """The disk has a file from before, and is filled but for so many bytes."""
+        for name in os.listdir(self.disk):
+            path = os.path.join(self.disk, name)
+            shutil.rmtree(path) if os.path.isdir(path) else os.remove(path)
+        self.room.put("disk/out", "what was there before")
+        free = os.statvfs(self.disk)
+        self.room.put("disk/filling", bytes(max(0, free.f_bavail * free.f_frsize - size)))
+
+    def holds_as_before(self):
+        same((sorted(os.listdir(self.disk)), self.room.get("disk", "out")), (["filling", "out"], b"what was there before"),
+             "the disk")
+
+    def slabs(self, out, *more, length=LAYER, **how):
+        """By a stand-in for the slicer, whose slabs of one layer have this length."""
+        path = slicer(self.room, f"head -c {length} /dev/zero 2> /dev/null || "
+                      "{ echo 'stlslice: write failed after 0 bytes' >&2; exit 7; }", box="50000 50000 400")
+        return self.room.run(SLABS, "-l", "100", "-n", "1", "-P", path, *more, BRACKET, out, **how)
+
+    @needs("parallel")
+    def test_slabs_on_a_full_disk_are_told_and_leave_nothing(self):
+        """Full from the first byte on, within the first slab, in the last one, and at the last byte."""
+        line = f"stlslice-slabs: {self.out} can't be written: {FULL}\n"
+        for size in (0, 60_000, 400_000, 4 * LAYER // 4096 * 4096):
+            for jobs in ("1", "4"):
+                self.leave(size)
+                same(self.slabs(self.out, "-j", jobs), (1, "", line), f"{size} bytes, {jobs} jobs")
+                self.holds_as_before()
+        self.leave(1 << 20)
+        same(self.slabs(self.out), (0, "", ""), "with room")
+        same(os.path.getsize(self.out), 4 * LAYER, "with room: bytes")
+
+    @needs("parallel")
+    def test_slabs_with_a_full_temporary_folder_are_told(self):
+        """Full before the slabs begin, and while they are made."""
+        out, env = self.room.file("slabs"), self.room.with_env(TMPDIR=self.disk)
+        line = f"stlslice-slabs: the temporary folder {self.disk} can't be used: {FULL}\n"
+        self.leave(0)
+        same(self.slabs(out, "-j", "4", env=env), (1, "", line), "full at once")
+        self.holds_as_before()
+        self.leave(200_000)
+        ran = self.slabs(out, "-j", "4", env=env)
+        assert ran.status in (1, 7) and ran.out == "", ran
+        assert ran.fault.splitlines()[-1].startswith(("stlslice: ", "stlslice-slabs: ")), ran
+        self.holds_as_before()
+        assert not os.path.exists(out), "something is left"
+
+    @needs("parallel")
+    def test_slabs_that_are_too_short_are_told(self):
+        """A slicer that gives less than its slab has, and says nothing."""
+        out = self.room.file("short")
+        line = (f"stlslice-slabs: {out} can't be written: images of slabs are lost; "
+                f"is the temporary folder {self.room.path} full?\n")
+        for more in ((), ("--png",)):
+            same(self.slabs(out, *more, length=LAYER - 1), (1, "", line), f"short slabs {more}")
+            assert not os.path.exists(out), "something is left"
+
+    def test_archive_page_and_folder_on_a_full_disk(self):
+        for command, out in ((SL1, self.out), (PAGE, self.out), (PNGS, self.out + "2")):
+            self.leave(20_000)
+            self.room.refused(1, f"%s: {FULL}: {out}", command, *LARGE, BRACKET, out)
+            self.holds_as_before()
+
+    def test_full_temporary_folder_of_an_archive_for_standard_output(self):
+        self.leave(20_000)
+        env = self.room.with_env(TMPDIR=self.disk)
+        self.room.refused(1, f"%s: {FULL}: {self.disk}", SL1, *LARGE, BRACKET, "-", env=env)
+        self.holds_as_before()

@@ -1,0 +1,404 @@
+"""OBJ and 3MF as the commands read them: the points and triangles that they mean, what is refused, hostile files within
+little time and memory, and the converting lines of other formats."""
+
+import io
+import json
+import os
+import random
+import re
+import struct
+import sys
+import zipfile
+
+from as_installed import PAGE, PNGS, SHARE, SL1
+from common import Case, bytes_of, example, lacking, name_of, needs, same
+from parts import SIDES, box, text
+
+from stlslice_commands import faults, meshes, parts
+
+SCREEN = ["--canvas", "160x120", "--pitch", "250", "--layer", "500"]
+FACES = [face for a, b, c, d in SIDES for face in ((a, b, c), (a, c, d))]
+LOW, HIGH = (0, 0, 0), (10, 20, 30)
+RELATIONSHIPS = ('<Relationships xmlns="http://schemas.openxmlformats.org/package/2006/relationships">'
+                 f'<Relationship Target="/3D/3dmodel.model" Id="r" Type="{meshes.MODEL}"/></Relationships>')
+
+
+def lines(form, rows):
+    return "".join(form % tuple(row) for row in rows)
+
+
+def points(low, high):
+    return [tuple((low, high)[k >> axis & 1][axis] for axis in range(3)) for k in range(8)]
+
+
+def obj(low=LOW, high=HIGH, faces=SIDES):
+    return lines("v %s %s %s\n", points(low, high)) + "".join(
+        f"f {' '.join(str(k + 1) for k in face)}\n" for face in faces)
+
+
+def mesh(low, high):
+    return ("<mesh><vertices>" + lines('<vertex x="%s" y="%s" z="%s"/>', points(low, high)) + "</vertices><triangles>"
+            + lines('<triangle v1="%d" v2="%d" v3="%d"/>', FACES) + "</triangles></mesh>")
+
+
+def placed(transform, number=1, kind="item"):
+    """An object where a transform puts it, as an item or a component."""
+    return f'<{kind} objectid="{number}" transform="{transform}"/>'
+
+
+def moved_by(x):
+    return f"1 0 0 0 1 0 0 0 1 {x} 0 0"
+
+
+def holding(number, components):
+    return f'<object id="{number}"><components>{components}</components></object>'
+
+
+MESH = mesh(LOW, HIGH)
+BOX = f'<object id="1">{MESH}</object>'
+
+
+def model(objects=BOX, items='<item objectid="1"/>', words="", head=""):
+    return (f'<?xml version="1.0"?>{head}<model {words} xmlns="{meshes.CORE.strip()}"><resources>{objects}</resources>'
+            f"<build>{items}</build></model>")
+
+
+def zip_of(entries):
+    file = io.BytesIO()
+    with zipfile.ZipFile(file, "w", zipfile.ZIP_DEFLATED, compresslevel=9) as archive:
+        for name, body in entries:
+            archive.writestr(name, body)
+    return file.getvalue()
+
+
+def packed(body, *more):
+    return zip_of([("[Content_Types].xml", "<x/>"), ("_rels/.rels", RELATIONSHIPS), ("3D/3dmodel.model", body), *more])
+
+
+def box_of(found):
+    """The least and greatest corner of what was read, its facets, and six times its volume."""
+    places, corners = found
+    sides = [places[k::3] for k in range(3)]
+    triangles = [[tuple(places[3 * at:3 * at + 3]) for at in corners[k:k + 3]] for k in range(0, len(corners), 3)]
+    volume = sum(meshes.dot(meshes.cross(a, b), c) for a, b, c in triangles)
+    return [min(side) for side in sides], [max(side) for side in sides], len(triangles), volume
+
+
+def read_obj(body, unit="mm"):
+    return meshes.read_obj(io.BytesIO(body.encode()), unit)
+
+
+def read_3mf(body, *more):
+    return meshes.read_3mf(io.BytesIO(body if isinstance(body, bytes) else packed(body, *more)), 1 << 20)
+
+
+def refusal(read, *words):
+    """What isn't taken, or is refused, in a line; or an empty text."""
+    try:
+        read(*words)
+    except (faults.Refused, meshes.NotTaken) as fault:
+        return f"{type(fault).__name__}: {fault}"
+    return ""
+
+
+class Objs(Case):
+    def test_a_box_of_squares_or_triangles_in_each_unit(self):
+        for faces in (SIDES, FACES):
+            for unit, times in (("mm", 1), ("cm", 10), ("m", 1000), ("inch", 25.4)):
+                found = box_of(read_obj(obj((0, "-0.5", "1e-1"), (1, ".25", "+2"), faces), unit))
+                low, high = ([round(1000 * x * times) for x in corner] for corner in ((0, -0.5, 0.1), (1, 0.25, 2)))
+                volume = 6 * (high[0] - low[0]) * (high[1] - low[1]) * (high[2] - low[2])
+                same(found, (low, high, 12, volume), unit)
+
+    def test_each_form_of_a_face(self):
+        square = ("v 0 0 0\nv 1 0 0 1\nv 1 1 0 0.5 0.5 0.5 # a colour\n\n  v 0 1 0\r\n"
+                  "vt 0 0\nvn 0 0 1\ng a\nusemtl b\ns off\no c\n")
+        for face in ("1 2 3 4", "1/1 2/1 3/1 4/1", "1//1 2//1 3//1 4//1", "1/1/1 2/1/1 3/1/1 4/1/1", "-4 -3 -2 -1",
+                     "-4/-1/-1 2 3/1 -1//-1", "1 2 \\\n 3 4", "1 2 3 4 # 5"):
+            same(list(read_obj(f"{square}f {face}")[1]), [0, 1, 2, 0, 2, 3], face)
+        same(list(read_obj(f"{square}f -2 -1 -4\nv 5 5 5\nf -1 1 2\nl 1 2\np 1")[1]), [2, 3, 0, 4, 0, 1], "from the end")
+
+    def test_polygons_are_flat_and_convex_or_not_taken(self):
+        a, b, c, d = flat = (0, 0, 0), (4, 0, 0), (4, 4, 0), (0, 4, 0)
+        star = [(9, 0, 0), (-7.28115, 5.29007, 0), (2.78115, -8.55951, 0), (2.78115, 8.55951, 0), (-7.28115, -5.29007, 0)]
+        taken = {"flat": flat, "a corner within an edge": (a, (2, 0, 0), b, c, d),
+                 "4 micrometres off": (a, b, (4, 4, 0.004), d), "an edge 3 micrometres off": (a, (2, 0.003, 0), b, c, d)}
+        odd = ((a, b, (4, 4, 0.02), d), (a, b, (1, 1, 0), d), (d, a, b, (1, 1, 0)), (a, c, b, d), star,
+               [(k, k, k) for k in range(4)], (a, (2, 0.02, 0), b, c, d))
+
+        def polygon(corners):
+            face = " ".join(str(k + 1) for k in range(len(corners)))
+            return refusal(read_obj, lines("v %s %s %s\n", corners) + f"f {face}")
+
+        for what, corners in taken.items():
+            same(polygon(corners), "", what)
+        for corners in odd:
+            line = f"NotTaken: line {len(corners) + 1} of the OBJ: a face isn't flat and convex"
+            same(polygon(corners), line, str(corners))
+
+    def test_what_is_wrong_is_told_with_its_line(self):
+        for body, line in (("v 0 0", "1 of the OBJ: v has fewer than three numbers"),
+                           ("\nv 0 0 x", "2 of the OBJ: 'x' is not a number"),
+                           ("v 0 0 128001", "1 of the OBJ: '128001' is out of range"),
+                           ("v 0 0 " + "0" * 256, "1 of the OBJ: '00000000000000000000' is too long"),
+                           ("v 0 0 0\nf 1 1", "2 of the OBJ: a face has fewer than three corners"),
+                           ("#" + 2 ** 20 * " ", "1 of the OBJ has more than 1,048,576 bytes"),
+                           *((f"v 0 0 0\nf 1 1 {at}", f"2 of the OBJ: there is no point '{at}'")
+                             for at in ("2", "0", "-2", "1.5", "x", "1_0", "1/x"))):
+            same(refusal(read_obj, body), f"Refused: line {line}", body[:40])
+        same(refusal(read_obj, "v 0 0 0\ncurv 0 1 1"), "NotTaken: line 2 of the OBJ: curv isn't taken", "a curve")
+
+
+class ThreeMfs(Case):
+    def test_units(self):
+        for unit, times in (("micron", 1), ("millimeter", 1000), ("centimeter", 10_000), ("inch", 25_400), ("foot", 304_800),
+                            ("meter", 1_000_000)):
+            body = model(f'<object id="1">{mesh((0, "-.5", 0), (1, 2, " 3e0 "))}</object>', words=f'unit="{unit}"')
+            low = -(-times // 2) if times > 1 else 1
+            same(box_of(read_3mf(body))[:3], ([0, -low, 0], [times, 2 * times, 3 * times], 12), unit)
+        same(box_of(read_3mf(model()))[1], [10_000, 20_000, 30_000], "millimetres if it says nothing")
+
+    def test_transforms_are_exact_and_rounded_once(self):
+        volume = 6 * 10_000 * 20_000 * 30_000
+        for transform, low, high in (
+                ("1 0 0 0 1 0 0 0 1 -5 2.0005 -0.0005", [-5000, 2001, -1], [5000, 22001, 30_000]),
+                ("0 1 0 -1 0 0 0 0 1 0 0 0", [-20_000, 0, 0], [0, 10_000, 30_000]),
+                ("-1 0 0 0 1 0 0 0 1 0 0 0", [-10_000, 0, 0], [0, 20_000, 30_000]),
+                ("1 0 0 0 1 0 0 0 -1 0 0 30", [0, 0, 0], [10_000, 20_000, 30_000]),
+                ("2 0 0 0 0.5 0 0 0 1 1e-3 0 0", [1, 0, 0], [20_001, 10_000, 30_000])):
+            found = box_of(read_3mf(model(items=placed(transform))))
+            same(found[:3], (low, high, 12), transform)
+            assert abs(found[3] - volume) < volume // 1000, f"{transform}: not as seen from outside"
+        # the half of a micrometre that two transforms make together, neither of which alone has one
+        body = model(BOX + holding(2, placed(moved_by(0.00025), 1, "component")), placed(moved_by(0.00025), 2))
+        same(box_of(read_3mf(body))[0], [1, 0, 0], "two transforms")
+
+    def test_components_and_items_are_placed_each(self):
+        twice = '<component objectid="1"/>' + placed(moved_by(100), 1, "component")
+        items = placed("0 1 0 -1 0 0 0 0 1 0 0 0", 2) + '<item objectid="1" printable="0"/><item objectid="1"/>'
+        found = box_of(read_3mf(model(BOX + holding(2, twice), items)))
+        same(found[:3], ([-20_000, 0, 0], [10_000, 110_000, 30_000], 36), "three boxes")
+
+    def test_what_another_tool_may_take(self):
+        volume = '<metadata type="volume" key="volume_type" value="{}"/>'.format
+        configs = [("Metadata/Slic3r_PE_model.config", volume(word))
+                   for word in ("ParameterModifier", "NegativeVolume", "SupportBlocker")]
+        for (body, *more), line in (([model(words='requiredextensions="p"')], "needs the extensions 'p'"),
+                                    ([model(f'<object id="1" type="surface">{MESH}</object>')],
+                                     "builds an object of the type surface"),
+                                    *(([model(), it], "has volumes that are none of the part, such as modifiers")
+                                      for it in configs)):
+            same(refusal(read_3mf, body, *more), f"NotTaken: the 3MF {line}", str(more))
+
+    def test_what_is_wrong_is_told(self):
+        def changed(old, new):
+            return model(BOX.replace(old, new, 1))
+
+        for body, line in (
+                (changed('v1="0"', 'v1="8"'), "object 1 has a triangle with a point that it hasn't"),
+                (changed(' z="0"', ""), "z is missing"), (changed('x="10"', 'x="nan"'), "'nan' is no number"),
+                (changed('v1="0"', 'v1="1_0"'), "a triangle has an index that is no number"),
+                (changed('x="10"', 'x="1e300"'), "'1e300' is too large"),
+                (model(words='unit="furlong"'), "there is no unit 'furlong'"),
+                (changed('x="10"', 'x="128000.0005"'), "object 1 reaches beyond 128 m from the origin"),
+                (model(items=placed("1 0 0")), "a transform hasn't twelve numbers of at most 40 bytes"),
+                (model(items=placed("1 0 0 0 1 0 0 0 0 0 0 0")), "a transform makes an object flat"),
+                (model(items='<item objectid="2"/>'), "there is no object 2 before what refers to it"),
+                (model(holding(1, '<component objectid="1"/>')), "there is no object 1 before what refers to it"),
+                (model(2 * BOX), "object 1 stands twice, or in another"),
+                (model(MESH), "it has a vertex outside an object"),
+                ("<model/>", "its model is none of the core specification 1"),
+                (model(head="<!DOCTYPE a>"), "its XML has a document type"),
+                (packed(model())[:300], "it is cut, or no zip")):
+            same(refusal(read_3mf, body), f"Refused: the 3MF can't be read: {line}", line)
+
+
+# Of memory what this process took, and not the one that it was forked from.
+HOSTILE = """import json, re, sys, time
+sys.path.insert(0, sys.argv[1])
+from stlslice_commands import faults, meshes
+with open(sys.argv[2], "rb") as file:
+    begin = time.process_time()
+    try:
+        meshes.read_3mf(file, 1 << 20)
+        told = None
+    except (faults.Refused, meshes.NotTaken) as fault:
+        told = str(fault)
+with open("/proc/self/status") as file:
+    memory = int(re.search(r"VmHWM:\\s+(\\d+) kB", file.read())[1])
+print(json.dumps([told, time.process_time() - begin, memory]))
+"""
+
+
+def each_holding(count, last, transform=meshes.IDENTITY):
+    """Objects that each hold the one before, so many times."""
+    return "".join(holding(k, count * placed(transform, k - 1, "component")) for k in range(2, last + 1))
+
+
+def hostile_models():
+    entities = "".join(f'<!ENTITY a{k} "{10 * f"&a{k - 1};"}">' for k in range(1, 12))
+    yield "entities", model(head=f'<!DOCTYPE x [<!ENTITY a0 "ha">{entities}]>')
+    for count in (2, 1000):
+        many = each_holding(count, 14)
+        yield f"components by {count}", model(BOX + many, '<item objectid="14"/>')
+        yield f"empty components by {count}", model('<object id="1"/>' + many, '<item objectid="14"/>')
+    yield "components in each other", model(BOX + each_holding(1, 2999), '<item objectid="2999"/>')
+    long = " 0 0 0 ".join(3 * ["1." + 30 * "7"]) + " 0 0 0"
+    yield "long numbers of transforms", model(BOX + each_holding(1, 14, long), '<item objectid="14"/>')
+    for name, filling in (("spaces", " " * (15 << 20)), ("a comment", f"<!--{'x' * (15 << 20)}-->"),
+                          ("elements", "<a>" * (5 << 20)), ("a name", f"<{'x' * (15 << 20)}/>"),
+                          ("spaces beyond", " " * (1 << 25))):
+        yield name, model().replace("<resources>", "<resources>" + filling)
+    yield "items", model(items=500_000 * '<item objectid="1"/>')
+
+
+def hostile_files():
+    for name, body in hostile_models():
+        yield name, packed(body)
+    yield "entries", zip_of([("_rels/.rels", RELATIONSHIPS), *((str(k), "") for k in range(60_000))])
+    whole = packed(model())
+    at = whole.rfind(b"PK\1\2", 0, whole.rfind(b"PK\5\6"))
+    yield "a size that lies", whole[:at + 24] + struct.pack("<I", 1 << 31) + whole[at + 28:]
+
+
+def mutated(draw, body):
+    """The bytes with some of them changed, left out, said again or replaced."""
+    body = bytearray(body)
+    for _ in range(draw.choice((1, 1, 2, 5))):
+        at = draw.randrange(len(body))
+        change = draw.randrange(4)
+        if change == 0:
+            body[at] = draw.randrange(256)
+        elif change == 1:
+            del body[at:at + draw.choice((1, 3, 40))]
+        elif change == 2:
+            other = draw.randrange(len(body))
+            body[at:at] = bytes(body[other:other + draw.choice((1, 3, 40))])
+        else:
+            body[at:at + 1] = draw.choice((b"-", b"9", b"/", b'"', b"<", b"e9", b"\0", b" "))
+        body = body or bytearray(b"v")
+    return bytes(body)
+
+
+class HostileFiles(Case):
+    def test_they_take_at_most_40_megabytes_and_two_seconds(self):
+        for name, body in hostile_files():
+            told = self.room.out(sys.executable, "-c", HOSTILE, SHARE, self.room.put("part.3mf", body))
+            told, seconds, memory = json.loads(told)
+            assert told or name in ("spaces", "long numbers of transforms"), f"{name} is taken"
+            assert seconds < 2 and memory < 40 << 10, f"{name}: {seconds} s, {memory} KiB"
+
+    def test_mutated_files_are_taken_or_refused_in_one_line(self):
+        """No fault but one with a line and a status of the commands, and no file is left."""
+        draw, taken = random.Random(7), 0
+        bodies = {"3mf": packed(model()), "obj": obj().encode(), "xml": model().encode()}
+        given = type("Given", (), {"part": self.room.file("part"), "unit": "mm"})()
+        for number in range(600):
+            kind = ("3mf", "obj", "xml")[number % 3]
+            body = mutated(draw, bodies[kind])
+            self.room.put("part", packed(body) if kind == "xml" else body)
+            try:
+                with parts.opened(given) as (file, _):
+                    file.seek(0)
+                    taken += bool(file.read(1))
+            except faults.Refused as fault:
+                assert fault.status in (1, 2, 3) and len(fault.line) < 500, f"{number}: {fault.status}, {fault.line}"
+        assert taken > 30, f"only {taken} were taken"
+        same(self.room.files(), ["part"], "files")
+
+
+class Commands(Case):
+    def setUp(self):
+        super().setUp()
+        self.room.environment["SOURCE_DATE_EPOCH"] = "1700000000"
+
+    def archive(self, *words, **how):
+        told, body = self.room.out(SL1, *SCREEN, *words, "out.sl1", cwd=self.room.path, **how), self.room.get("out.sl1")
+        os.remove(self.room.file("out.sl1"))
+        return told, body
+
+    def refused(self, status, line, *words):
+        self.room.refused(status, line, SL1, *SCREEN, *words, "out.sl1", cwd=self.room.path)
+
+    def stl(self):
+        self.room.put("part.stl", text(box(LOW, HIGH)))
+        wanted = self.archive("part.stl")
+        os.remove(self.room.file("part.stl"))
+        return wanted
+
+    def test_archives_are_those_of_the_same_part_as_stl(self):
+        wanted = self.stl()
+        self.room.put("part.obj", obj())
+        self.room.put("inch.obj", obj(LOW, ("0.393700787", "0.787401575", "1.181102362")))
+        packed_part = self.room.put("part.3mf", packed(model()))
+        for words in (["part.obj"], ["part.3mf"], ["--shells", "part.3mf"], ["--unit", "inch", "inch.obj"]):
+            same(self.archive(*words), wanted, f"archive of {words}")
+        same(self.archive("-", path=packed_part), wanted, "archive of standard input")
+        for name in ("part.obj", "part.3mf"):
+            told = self.room.out(PAGE, "--pitch", "250", "--layer", "500", name, "page.html", cwd=self.room.path)
+            assert "60 layers, 6.000 ml" in told, told
+        self.refused(2, "%s: a 3MF has a unit of its own: leave out --unit", "--unit", "inch", "part.3mf")
+
+    def test_faults_are_told_with_the_command_that_converts(self):
+        self.room.put("part.obj", "v 0 0 0\ncurv 0 1 1\n")
+        self.room.put("part.3mf", packed(model(words='requiredextensions="p"')))
+        self.room.put("open.obj", obj(faces=FACES[1:]))
+        for status, name, line in (
+                (3, "part.obj", "%s: line 2 of the OBJ: curv isn't taken; convert it: assimp export part.obj part.stl"),
+                (3, "part.3mf",
+                 "%s: the 3MF needs the extensions 'p'; convert it: prusa-slicer --export-stl --output part.stl part.3mf"),
+                (4, "open.obj", "stlslice: open edge 0 0 0 to 0 20000 0 there 0 back 1")):
+            self.refused(status, line, name)
+
+    def test_amf_and_off_are_told_with_a_line_that_works(self):
+        wanted, corners = self.stl(), points(LOW, HIGH)
+        off = "OFF\n8 12 0\n" + lines("%d %d %d\n", corners) + lines("3 %d %d %d\n", FACES)
+        amf = ('<amf unit="millimeter"><object id="0"><mesh><vertices>'
+               + lines("<vertex><coordinates><x>%d</x><y>%d</y><z>%d</z></coordinates></vertex>", corners)
+               + "</vertices><volume>" + lines("<triangle><v1>%d</v1><v2>%d</v2><v3>%d</v3></triangle>", FACES)
+               + "</volume></mesh></object></amf>\n")
+        for kind, body in (("OFF", off), ("OFF", "# by a tool\n" + off), ("OFF", "\n \n" + off), ("AMF", amf),
+                           ("AMF", f'<?xml version="1.0" encoding="UTF-8"?>\n<!-- by a tool -->\n{amf}')):
+            name = f"part.{kind.lower()}"
+            self.room.put(name, body)
+            command = f"assimp export {name} part.stl"
+            self.refused(3, f"%s: the part is {kind}, not STL; convert it: {command}", name)
+            if lacking("assimp"):
+                self.leave_out(f"converting {kind}: {lacking('assimp')}")
+                continue
+            same(self.room.bash(command, cwd=self.room.path).status, 0, command)
+            same(self.archive("part.stl"), wanted, f"archive of {kind}")
+            os.remove(self.room.file("part.stl"))
+
+    @needs("prusa-slicer")
+    def test_a_3mf_of_prusaslicer_is_its_stl(self):
+        """Two parts that it arranged on a plate, beside the same as STL, which it rounds to single precision."""
+        told = []
+        for kind in ("3mf", "stl"):
+            words = ["--merge", f"--export-{kind}", "--output", f"plate.{kind}"]
+            words += map(example, ("bracket.stl", "calibration_block.stl"))
+            same(self.room.run("prusa-slicer", *words, cwd=self.room.path).status, 0, f"status of {words}")
+            told.append(json.loads(self.archive("--json", "--canvas", "400x400", f"plate.{kind}")[0]))
+        (*found, volume), (*wanted, volume_there) = ([it[key] for key in ("layers", "size", "millilitres")] for it in told)
+        same(found, wanted, "layers and size")
+        assert abs(volume - volume_there) <= volume_there / 1000, f"{volume} ml, {volume_there} ml"
+
+    def test_json_says_what_the_plain_line_says(self):
+        part = example("bracket.stl")
+        for command, keys in ((SL1, ["seconds"]), (PNGS, []), (PAGE, ["bytes"])):
+            name, out = name_of(command), f"out of {name_of(command)}\u00e4"
+            words = [command, "--pitch", "200", "--layer", "500", "--canvas", "300x200"]
+            plain = self.room.out(*words, part, out + "2", cwd=self.room.path)
+            line = self.room.out(*words, "--json", part, out, cwd=self.room.path)
+            told = json.loads(line)
+            same((line.count("\n"), list(told), told["output"]),
+                 (1, ["output", "layers", "size", "millilitres", *keys], out), name)
+            shown = [f"{told['millilitres']:.3f} ml", f"{told['layers']} layers"]
+            shown += [" x ".join(f"{side:.3f}" for side in told["size"]) + " mm"] if command != PAGE else []
+            assert all(it in plain for it in shown), f"{name}: {plain}, and not {shown}"
+            if command == SL1:
+                with zipfile.ZipFile(self.room.file(out)) as archive:
+                    time_there = re.search(r"printTime = (\S+)", archive.read("config.ini").decode())[1]
+                assert abs(float(time_there) - told["seconds"]) <= 0.1, f"{time_there} s, {told['seconds']} s"
+            elif command == PAGE:
+                same(len(bytes_of(self.room.file(out))), told["bytes"], "bytes of the page")

@@ -1,0 +1,224 @@
+"""The library for ARM Linux, under qemu, and the one for Windows, under Wine, answer what the program and the native library
+answer. They are built of the LLVM module of the native one, which `make library` leaves. The programs in C are those of
+library/tests. The wheel for ARM runs in Debian's Python, which tests/install_packages keeps."""
+
+import importlib.machinery
+import importlib.util
+import os
+import re
+import shutil
+import sys
+import zipfile
+from concurrent.futures import ThreadPoolExecutor
+
+from common import PROGRAM, ROOT, Case, Together, bytes_of, example, library, needs, same, skip, text_of, version
+
+MODULE = "build/made/module.bc"
+PYTHON = os.path.join(os.environ.get("XDG_CACHE_HOME") or os.path.expanduser("~/.cache"), "stlslice", "python-arm64")
+# of how many random parts each answer is compared; more can be asked for by hand
+PARTS = int(os.environ.get("STLSLICE_PARTS", "12"))
+# a step that C does not define stops the program
+SANE = ["-g", "-O1", "-fsanitize=undefined", "-fsanitize-undefined-trap-on-error"]
+
+
+def script(*path):
+    loader = importlib.machinery.SourceFileLoader("_".join(path), os.path.join(ROOT, *path))
+    module = importlib.util.module_from_spec(importlib.util.spec_from_loader(loader.name, loader))
+    loader.exec_module(module)
+    return module
+
+
+library_test = script("library", "test")
+
+
+def two_at_a_time(call, *lists):
+    with ThreadPoolExecutor(2) as pool:
+        return list(pool.map(call, *lists))
+
+
+def parts(room):
+    for name in ("bracket", "calibration_block", "helical_gear", "supported"):
+        yield example(f"{name}.stl"), library_test.words_for(500, 500, 2)
+    yield example("helical_gear.stl"), [*library_test.words_for(12700, 12700, 0), "--unit", "inch"]
+    for seed in range(PARTS):
+        text, step, layer, rule = library_test.random_mesh(seed)
+        yield room.put(f"random{seed}.stl", text), library_test.words_for(step, layer, rule)
+
+
+def refused(room):
+    """Each text that the program refuses as a file, with the program's words."""
+    for number, (text, words) in enumerate(library_test.faulty(bytes_of(example("bracket.stl")))):
+        yield room.put(f"refused{number}.stl", text), words
+
+
+class Tried:
+    """What is tried of a TARGET. CC compiles a program for it, with the files of MORE, and RUN are the words that run one.
+    SHARED is its shared library, which is IN_WHEEL in the wheel with the TAG, and LINKS are the files to link with it."""
+
+    MORE = []
+
+    @classmethod
+    def make_ready(cls, room):
+        library()
+        if not os.path.exists(os.path.join(ROOT, MODULE)):
+            skip(f"{MODULE} isn't there (make library)")
+        cls.folder = room.file("library")
+        ran = room.run("library/build", cls.TARGET, MODULE, cls.folder, version(), "/usr/local")
+        same(ran, (0, "", ""), f"library/build {cls.TARGET}")
+        cls.files = sorted(os.listdir(cls.folder))
+
+    def compiled(self, cc, name, place, *words):
+        """A program of library/tests, compiled with all warnings."""
+        ran = self.room.run(*cc, "-std=c11", "-Wstrict-prototypes", *library_test.WARN, "-Iinclude",
+                            f"library/tests/{name}.c", *words, "-o", place)
+        same(ran, (0, "", ""), f"compiling {name}.c")
+        return place
+
+    def static(self, name, *words):
+        return self.compiled([*self.CC, *SANE], name, self.room.file(f"{name}.exe"), *self.MORE,
+                             os.path.join(self.folder, "libstlslice.a"), "-static", "-pthread", *words)
+
+    def by_program(self, case, *more):
+        path, words = case
+        return self.room.run(PROGRAM, *words, *more, path=path, text=False)
+
+    def by_target(self, *words):
+        return self.room.run(*self.RUN, *words, text=False)
+
+    def wheel(self):
+        shared = os.path.join(self.folder, self.SHARED)
+        ran = self.room.run(sys.executable, "python/wheel_of_library.py", version(), shared, self.room.path)
+        path = self.room.file(f"stlslice-{version()}-py3-none-{self.TAG}.whl")
+        same(ran, (0, f"{path}\n", ""), "what wheel_of_library.py says")
+        with zipfile.ZipFile(path) as wheel:
+            wheel.extractall(self.room.file("installed"))
+
+    def test_the_files_are_there_and_the_library_shows_the_calls_of_the_header(self):
+        same(self.files, sorted(["libstlslice.a", self.SHARED, *self.LINKS, "stlslice.h", "stlslice.pc"]), "files")
+        same(bytes_of(self.folder, "stlslice.h"), bytes_of("include", "stlslice.h"), "the header")
+        calls, needed = self.seen()
+        same(calls, re.findall(r"(?m)^ +(stlslice_\w+);$", text_of("library/exports.map")), "names")
+        same(needed, self.NEEDED, "libraries that it needs")
+
+    def test_each_call_answers_and_each_failed_allocation_is_told(self):
+        ran = self.by_target(self.static("calls", library_test.FAILING), version(), library_test.step_text())
+        same(ran.status, 0, f"status of calls.c, which says {ran.fault}")
+        assert re.fullmatch(rb"\d+ tests of the calls\n", ran.out), ran.out
+
+    def test_hostile_arguments_are_refused_and_no_memory_is_told(self):
+        line = library_test.memory_line(PROGRAM)[len("stlslice: "):-1]
+        ran = self.by_target(self.static("hostile", library_test.FAILING), example("bracket.stl"), line)
+        same((ran.status, ran.fault), (0, ""), "status of hostile.c, and what it says")
+        assert int(ran.out.split()[0]) > 100, ran.out
+
+    def test_layers_stripes_and_arrays_have_the_program_s_bytes_and_faults_its_lines(self):
+        layers, cases = self.static("layers"), [*parts(self.room), *refused(self.room)]
+        wanted = two_at_a_time(self.by_program, cases)
+        same({it.status for it in wanted}, {0, 3, 4, 5}, "statuses of the program")
+        words = [library_test.options_of(it) for _, it in cases]
+        arrays = list(library_test.with_arrays(self.room.path, cases, wanted))
+        found = two_at_a_time(lambda case, of, its: self.by_target(layers, case[0], of, *its), cases, arrays, words)
+        for case, *answers in zip(cases, found, wanted):
+            same(*answers, f"layers of {case}")
+
+    def test_images_pngs_areas_and_loops_are_the_program_s_and_the_native_library_s(self):
+        """The target's shared library; the loops are those of the native library, since the program writes none."""
+        beside = os.path.dirname(library())
+        own = self.compiled(["cc"], "answers", self.room.file("own"), os.path.join(beside, "libstlslice.a"))
+        program = self.compiled(self.CC, "answers", os.path.join(self.folder, "answers.exe"), *self.MORE, f"-L{self.folder}",
+                                "-lstlslice", "-Wl,-rpath,$ORIGIN")
+        cases = list(parts(self.room))
+        words = [[path, *library_test.options_of(it)] for path, it in cases]
+        natives = two_at_a_time(lambda its: self.room.run(own, *its, text=False), words)
+        found = two_at_a_time(lambda its: self.by_target(program, *its), words)
+        for case, *answers in zip(cases, found, natives):
+            same(*answers, f"answers for {case}")
+            lines = b"".join(re.findall(rb"layer .*\n", self.by_program(case, "--report").out))
+            written = self.by_program(case).out + self.by_program(case, "--png").out + lines
+            same(answers[0].out[:len(written)], written, f"images, PNGs, areas and numbers of loops of {case}")
+            assert lines.count(b"\n") > 3 and len(answers[0].out) > len(written) + 100, f"{case}: few answers"
+
+    def test_the_wheel_has_the_library(self):
+        self.wheel()
+        found = self.room.get("installed", "stlslice", self.IN_WHEEL)
+        same(found, bytes_of(self.folder, self.SHARED), "the library of the wheel")
+        info = self.room.get("installed", f"stlslice-{version()}.dist-info", "WHEEL").decode()
+        assert f"\nTag: py3-none-{self.TAG}\n" in info, info
+
+
+@needs("cc", "rt", "aarch64-linux-gnu-gcc", "qemu-aarch64")
+class Arm(Tried, Together):
+    TARGET, TAG, IN_WHEEL = "aarch64-linux", "manylinux_2_17_aarch64", "libstlslice.so.1"
+    SHARED = f"libstlslice.so.{version()}"
+    CC, RUN = ["aarch64-linux-gnu-gcc"], ["qemu-aarch64", "-L", "/usr/aarch64-linux-gnu"]
+    LINKS, NEEDED = ["libstlslice.so", "libstlslice.so.1"], ["libc.so.6"]
+
+    def seen(self):
+        shared = os.path.join(self.folder, self.SHARED)
+        told = self.room.run("aarch64-linux-gnu-readelf", "-dV", shared).out
+        same(set(re.findall(r"GLIBC_([\d.]+)", told)), {"2.17"}, "versions of the C library that it asks for")
+        names = self.room.run("aarch64-linux-gnu-nm", "-D", "--defined-only", shared).out
+        return re.findall(r" T (\w+)", names), re.findall(r"NEEDED\).*\[(.*)\]", told)
+
+    def listed(self):
+        """The list that library/tests/meshes.py takes: a few parts, since this Python is slow, and refused texts."""
+        cases = [list(parts(self.room))[it] for it in (1, 4, 5)] + list(refused(self.room))[::9]
+        wanted = two_at_a_time(self.by_program, cases)
+        arrays = library_test.with_arrays(self.room.path, cases, wanted)
+        for number, (case, ran, array) in enumerate(zip(cases, wanted, arrays)):
+            stream, (path, words) = self.room.put(f"stream{number}", ran.out), case
+            if ran.status == 0:
+                self.room.put(f"stream{number}.report", self.by_program(case, "--report").out)
+                box = self.room.run(PROGRAM, "--box", *library_test.unit_of(words), path=path)
+                self.room.put(f"stream{number}.box", box.out)
+            yield "\t".join([path, stream, str(ran.status), " ".join(words), ran.fault.strip(), array]) + "\n"
+
+    def test_the_wheel_runs_in_debian_s_python(self):
+        if not os.path.exists(PYTHON):
+            skip("missing: Debian's Python for arm64 (tests/install_packages)")
+        self.wheel()
+        lapack = ":".join(f"/usr/lib/aarch64-linux-gnu/{it}" for it in ("blas", "lapack"))
+        within = f"PYTHONPATH={self.room.file('installed')},LD_LIBRARY_PATH={lapack}"
+        ran = self.room.run("qemu-aarch64", "-L", PYTHON, f"{PYTHON}/usr/bin/python3", "library/tests/meshes.py",
+                            self.room.put("list", "".join(self.listed())), version(),
+                            env=self.room.with_env(QEMU_SET_ENV=within))
+        same((ran.status, ran.fault), (0, ""), "status of meshes.py, and what it says")
+        assert ran.out.startswith("Python: 3 meshes as bytes, PNGs and arrays"), ran.out
+
+
+@needs("cc", "rt", "x86_64-w64-mingw32-gcc", "wine")
+class Windows(Tried, Together):
+    TARGET, TAG, IN_WHEEL = "x86_64-windows", "win_amd64", "stlslice.dll"
+    SHARED = IN_WHEEL
+    CC, RUN, MORE = ["x86_64-w64-mingw32-gcc"], ["wine"], ["library/tests/binary_output.c"]
+    LINKS, NEEDED = ["libstlslice.dll.a"], ["KERNEL32.dll", "msvcrt.dll"]
+
+    @classmethod
+    def make_ready(cls, room):
+        super().make_ready(room)
+        # Wine's folder lies in the room's home, and is made once
+        room.environment.update(WINEDEBUG="-all", WINEDLLOVERRIDES="mscoree,mshtml,winemenubuilder.exe=")
+        cls.addClassCleanup(room.run, "wineserver", "--kill")
+        same(room.run("wine", "cmd", "/c", "exit 3").status, 3, "status of a program under Wine")
+
+    def seen(self):
+        told = self.room.run("x86_64-w64-mingw32-objdump", "-p", os.path.join(self.folder, self.SHARED)).out
+        return re.findall(r"(?m)^\s+\[ *\d+\] (\w+)$", told), re.findall(r"DLL Name: (.*)", told)
+
+
+class Beside(Case):
+    def test_documents_tell_how_many_lines_of_llvm_are_trusted(self):
+        lines = text_of("library/rattle_heap.ll").count("\n")
+        for name in ("docs/PROVED.md", "docs/embedding.md", "docs/decisions/page-from-the-native-module.md"):
+            same(re.findall(r"(\d+) lines of LLVM\b", text_of(name)), [str(lines)], f"lines of LLVM in {name}")
+
+    @needs("rt")
+    def test_a_missing_compiler_is_named_with_its_package(self):
+        for name in "bash basename cat dirname echo grep ln ls mktemp python3 realpath rm rt sed".split():
+            os.symlink(shutil.which(name), self.room.file(name))
+        for target, packages in (("aarch64-linux", "gcc-aarch64-linux-gnu, libc6-dev-arm64-cross"),
+                                 ("x86_64-windows", "gcc-mingw-w64-x86-64")):
+            ran = self.room.run("library/build", target, "README.md", self.room.file("made"), version(), "/usr/local",
+                                env=self.room.with_env(PATH=self.room.path))
+            same(ran, (1, "", f"library/build: the C compiler for {target} is missing (Debian: {packages})\n"), target)
+        assert not os.path.exists(self.room.file("made")), "a folder was made"
