@@ -10,14 +10,12 @@ import sys
 import time
 import zipfile
 
-from as_installed import IMAGE, PAGE, PNGS, SL1, TINY, image_for, printed, slicer
-from common import Case, alone, bytes_of, example, has_ended, name_of, same, text_of, waited
+from as_installed import IMAGE, OPEN, OPEN_LINE, PAGE, PNGS, SL1, TINY, image_for, printed, slicer, wrong_words
+from common import BRACKET, GEAR, Case, alone, bytes_of, example, has_ended, name_of, same, text_of, waited
 from parts import archived, box, centred, layers_of, lit, middle, pixels_of_png, png_of_p4, text, turned_over, zipped
 
 SMALL = ["--canvas", "331x203", "--pitch", "200", "--layer", "500", "--workers", "2"]
-BRACKET = example("bracket.stl")
 CUBE = box((0, 0, 0), (1, 1, 1))
-OPEN, OPEN_LINE = text(CUBE[1:]), "stlslice: open edge 0 0 0 to 0 1000 0 there 0 back 1"
 
 
 def opened(path):
@@ -206,19 +204,19 @@ class Archives(Case):
             self.refused(status, line, *words, self.room.put("part.stl", bad), self.room.file("out2"))
 
     def test_pngs_are_taken_as_they_are(self):
-        part, out = example("helical_gear.stl"), self.room.file("out")
-        grid = middle(self.room.out("stlslice", "--box", path=part), (331, 203), 200, 500)
+        out = self.room.file("out")
+        grid = middle(self.room.out("stlslice", "--box", path=GEAR), (331, 203), 200, 500)
         for more in (["--depth", "8"], ["--depth", "1", "--mirror-x"], ["--depth", "8", "--mirror-x", "--mirror-y"]):
             words = ["--pitch", "200", "--layer", "500", "--rule", "positive", grid, "--png", *more]
-            wanted = self.room.out("stlslice", *words, path=part, text=False)
-            same(self.sliced(*more, part, out).status, 0, "archive")
+            wanted = self.room.out("stlslice", *words, path=GEAR, text=False)
+            same(self.sliced(*more, GEAR, out).status, 0, "archive")
             with zipfile.ZipFile(out) as archive:
                 entries = [it for it in archive.infolist() if it.filename.endswith(".png")]
                 assert b"".join(map(archive.read, entries)) == wanted, f"{more}: the archive has other PNGs"
                 for it in entries:
                     assert it.compress_type == zipfile.ZIP_DEFLATED and it.compress_size < it.file_size, "not deflated"
             os.remove(out)
-            same(self.sliced(*more, part, out, command=PNGS).status, 0, "folder")
+            same(self.sliced(*more, GEAR, out, command=PNGS).status, 0, "folder")
             found = b"".join(bytes_of(out, name) for name in sorted(os.listdir(out)))
             assert found == wanted, f"{more}: the folder has other PNGs"
             shutil.rmtree(out)
@@ -243,9 +241,7 @@ WRONG = {
     "--height=0": "it takes millimetres above 0 and below 1000000, as 150 or 149.5",
     "--exposure=0": SECONDS, "--first-exposure=-2": SECONDS, "--fade=1000": "it takes a whole number, 0 to 999",
     "--turn=half": "it takes auto, or no value", "--turn=quarter": "it takes auto, or no value",
-    # what follows in these lines is argparse's own, and not the same in each Python
-    "--rule=xor": "invalid choice: 'xor'",
-    "--unit=foot": "invalid choice: 'foot'", "--depth=2": "invalid choice: 2",
+    "--rule=xor": "invalid choice: 'xor'", "--unit=foot": "invalid choice: 'foot'", "--depth=2": "invalid choice: 2",
 }
 
 
@@ -256,18 +252,13 @@ class Words(Case):
         for words, line in (*cases, ([], "the following arguments are required: part, output"),
                             (["part.stl", "out", "--expo", "2"], "unrecognized arguments: --expo 2"),
                             (["part.stl", "out", "--fade"], "argument --fade: expected one argument")):
-            ran = self.room.run(SL1, *words, cwd=self.room.path)
-            last = ran.fault.splitlines()[-1].split(" (choose from ")[0]
-            same((ran.status, ran.out, last), (2, "", f"stlslice-sl1: error: {line}"), str(words))
-        same(self.room.files(), [], "files")
+            wrong_words(self.room, line, SL1, *words)
 
     def test_empty_names_are_refused(self):
         for command in (SL1, PNGS, PAGE):
             for words, which in ((["", "out"], "part"), ([BRACKET, ""], "output")):
-                ran = self.room.run(command, "--canvas", "99x99", "--pitch", "50", *words, cwd=self.room.path)
-                line = f"{name_of(command)}: error: argument {which}: it takes a name"
-                same((ran.status, ran.out, ran.fault.splitlines()[-1]), (2, "", line), f"an empty name of the {which}")
-        same(self.room.files(), [], "files")
+                line = f"argument {which}: it takes a name"
+                wrong_words(self.room, line, command, "--canvas", "99x99", "--pitch", "50", *words)
 
     def test_a_missing_program_is_told(self):
         room = self.room
