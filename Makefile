@@ -57,7 +57,7 @@ demo:  ## slices a bundled part into build/demo, at once: unproved if the progra
 help:  ## lists these targets
 	@sed -nE 's/^([a-z-]+):.*  ## (.*)/\1\t\2/p' Makefile | awk -F '\t' '{ printf "%-16s %s\n", $$1, $$2 }'
 
-check:  ## what a change touches, in minutes; BASE=REV says what it is compared with (HEAD)
+check:  ## what a change touches, in minutes; BASE=REV: since the branch left REV (HEAD)
 	$(NEEDS_RT)
 	@tools/check.py $(BASE)
 

@@ -3,7 +3,7 @@
 import os
 import sys
 
-from common import installed, name_of, same
+from common import BRACKET, bytes_of, installed, name_of, same
 from parts import box, png_of_p4, text
 
 SL1, PNGS, PAGE, SLABS = (installed(f"stlslice-{it}") for it in ("sl1", "pngs", "page", "slabs"))
@@ -24,6 +24,16 @@ def wrong_words(room, line, command, *words):
     last = ran.fault.splitlines()[-1].split(" (choose from ")[0]
     same((ran.status, ran.out, last), (2, "", f"{name_of(command)}: error: {line}"), f"{name_of(command)} {words}")
     same(room.files(), files, f"files after {words}")
+
+
+def keeps_the_part(room, command):
+    """The part itself, and a link to it, are refused as the output."""
+    part, link = room.put("part.stl", bytes_of(BRACKET)), room.file("link.stl")
+    os.link(part, link)
+    for out in (part, link):
+        room.refused(1, f"%s: {out} is the part itself", *command, part, out)
+    assert room.get("part.stl") == bytes_of(BRACKET), "the part has changed"
+    return part, link
 
 
 def printed(data):

@@ -1,6 +1,7 @@
 """stlslice-sl1 and stlslice-pngs, as installed: each pixel beside the slicer's own P4 stream, the place on the canvas, what
 is refused, and that a fault leaves nothing."""
 
+import itertools
 import os
 import re
 import shutil
@@ -10,7 +11,7 @@ import sys
 import time
 import zipfile
 
-from as_installed import IMAGE, OPEN, OPEN_LINE, PAGE, PNGS, SL1, TINY, image_for, printed, slicer, wrong_words
+from as_installed import IMAGE, OPEN, OPEN_LINE, PAGE, PNGS, SL1, TINY, image_for, keeps_the_part, printed, slicer, wrong_words
 from common import BRACKET, GEAR, Case, alone, bytes_of, example, has_ended, name_of, same, text_of, waited
 from parts import archived, box, centred, layers_of, lit, middle, pixels_of_png, png_of_p4, text, turned_over, zipped
 
@@ -176,12 +177,9 @@ class Archives(Case):
             self.refused(1, f"%s: {line.format(out)}", "--program", never, BRACKET, out, command=command)
 
     def test_the_part_is_not_overwritten(self):
-        part, link = self.room.put("part.stl", bytes_of(BRACKET)), self.room.file("link.stl")
-        os.link(part, link)
-        for out in (part, link):
-            self.refused(1, f"%s: {out} is the part itself", part, out)
-            for command in (SL1, PAGE):
-                self.refused(1, f"%s: {out} is the part itself", "-", out, command=command, path=part)
+        part, link = keeps_the_part(self.room, [SL1, *SMALL])
+        for out, command in itertools.product((part, link), (SL1, PAGE)):
+            self.refused(1, f"%s: {out} is the part itself", "-", out, command=command, path=part)
         assert self.room.get("part.stl") == bytes_of(BRACKET), "the part has changed"
         line = "%s: . is the current folder, which can't be made"
         self.refused(1, line, BRACKET, ".", command=PNGS, cwd=self.room.path)

@@ -10,7 +10,7 @@ import subprocess
 import time
 import unittest
 
-from as_installed import OPEN, OPEN_LINE, SLABS, slicer
+from as_installed import OPEN, OPEN_LINE, SLABS, keeps_the_part, slicer
 from common import (BRACKET, PROGRAM, ROOT, Case, add_batch_system, alone, bytes_of, example, has_ended, needs, same, skip,
                     waited)
 from parts import box, text
@@ -95,11 +95,7 @@ class Words(Slabs):
             room.refused(3, line.format(free, name), SLABS, name, "x", cwd=room.path)
 
     def test_the_part_is_not_overwritten(self):
-        part, link = self.room.put("part.stl", bytes_of(BRACKET)), self.room.file("link.stl")
-        os.link(part, link)
-        for out in (part, link):
-            self.room.refused(1, f"%s: {out} is the part itself", SLABS, part, out)
-        assert self.room.get("part.stl") == bytes_of(BRACKET), "the part has changed"
+        keeps_the_part(self.room, [SLABS])
 
     def few_tools(self, *others):
         """An environment whose PATH has only what the command takes before GNU parallel, and stand-ins for other tools."""
