@@ -284,20 +284,17 @@ class Words(Case):
             assert "1 to 64 (1)" in " ".join(told.split()), told
 
     def test_options_are_those_of_the_page(self):
-        """The table of docs/printing.md has those of stlslice-sl1, with their defaults; stlslice-pngs has all but four."""
+        """The table of docs/printing.md has those of stlslice-sl1, with their defaults."""
         told = {}
         for names, defaults in re.findall(r"(?m)^\| (`--[^|]*) \| ([^|]*) \|", text_of("docs/printing.md")):
             names = re.findall(r"--[a-z-]+", names)
             defaults = defaults.replace("`", "").split(", ")
             told.update(zip(names, defaults if len(defaults) == len(names) else [None] * len(names)))
-        env = self.room.with_env(COLUMNS="80")
-        helps = [" ".join(self.room.run(command, "--help", env=env).out.split()) for command in (SL1, PNGS)]
-        sl1, pngs = (set(re.findall(r"\[(--[a-z-]+)", it)) for it in helps)
-        same(set(told), sl1, "options of stlslice-sl1")
-        same(sl1 - pngs, {"--exposure", "--first-exposure", "--fade", "--material"}, "options of stlslice-sl1 alone")
+        shown = " ".join(self.room.run(SL1, "--help", env=self.room.with_env(COLUMNS="80")).out.split())
+        same(set(told), set(re.findall(r"\[(--[a-z-]+)", shown)), "options of stlslice-sl1")
         tried = 0
         for name, default in told.items():
-            said = re.search(rf"(?<!\[){name} (?:[A-Z][A-Za-z]*|\{{\S*\}}) .*?\(([^ ,)]+)", helps[0])
+            said = re.search(rf"(?<!\[){name} (?:[A-Z][A-Za-z]*|\{{\S*\}}) .*?\(([^ ,)]+)", shown)
             if default and re.match(r"[\dA-Z]|positive$|mm$", default):
                 number = re.fullmatch(r"[\d.]+", default)
                 same(float(said[1]) if number else said[1], float(default) if number else default, f"default of {name}")
