@@ -57,7 +57,7 @@ demo:  ## slices a bundled part into build/demo, at once: unproved if the progra
 help:  ## lists these targets
 	@sed -nE 's/^([a-z-]+):.*  ## (.*)/\1\t\2/p' Makefile | awk -F '\t' '{ printf "%-16s %s\n", $$1, $$2 }'
 
-check:  ## what a change touches, in minutes; BASE=REV says what it is compared with (HEAD)
+check:  ## what a change touches, in minutes; BASE=REV: since the branch left REV (HEAD)
 	$(NEEDS_RT)
 	@tools/check.py $(BASE)
 
@@ -136,8 +136,7 @@ uninstall:  ## removes what make install copied
 	rm -f $(DESTDIR)$(LIB)/libstlslice.so $(DESTDIR)$(LIB)/libstlslice.so.1 $(DESTDIR)$(LIB)/libstlslice.so.$(VERSION)
 
 deb: $(PROGRAM) $(LIBRARY_BUILT)  ## Debian packages of the program, and of the library if it is built, in build/
-	tools/deb $(PROGRAM) $(VERSION) build
-	$(if $(LIBRARY_BUILT),tools/deb_library $(LIBRARY) $(VERSION) build)
+	tools/deb $(PROGRAM) $(VERSION) build $(LIBRARY_BUILT)
 
 dist: $(PROGRAM) $(LIBRARY_BUILT)  ## tarballs of the program, and of the library if it is built, with SHA-256, in build/
 	tools/dist $(PROGRAM) $(VERSION) build $(LIBRARY_BUILT)

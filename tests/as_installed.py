@@ -3,16 +3,37 @@
 import os
 import sys
 
-from common import installed
-from parts import png_of_p4
+from common import BRACKET, bytes_of, installed, name_of, same
+from parts import box, png_of_p4, text
 
 SL1, PNGS, PAGE, SLABS = (installed(f"stlslice-{it}") for it in ("sl1", "pngs", "page", "slabs"))
 SHARE = os.path.join(os.path.dirname(installed()), "share", "stlslice")
 # a canvas for the stand-in, whose layers have eight pixels
 TINY = ["--canvas", "8x1", "--pitch", "100", "--layer", "500"]
 IMAGE = png_of_p4((8, 1, b"\377"), 8)
+# a cube without a facet, and the program's line of it
+OPEN, OPEN_LINE = text(box((0, 0, 0), (1, 1, 1))[1:]), "stlslice: open edge 0 0 0 to 0 1000 0 there 0 back 1"
 
 sys.path.insert(0, SHARE)
+
+
+def wrong_words(room, line, command, *words):
+    """The command refuses its words with this as its last line, and makes nothing."""
+    files, ran = room.files(), room.run(command, *words, cwd=room.path)
+    # the choices are told in argparse's own way, which is not the same in each Python
+    last = ran.fault.splitlines()[-1].split(" (choose from ")[0]
+    same((ran.status, ran.out, last), (2, "", f"{name_of(command)}: error: {line}"), f"{name_of(command)} {words}")
+    same(room.files(), files, f"files after {words}")
+
+
+def keeps_the_part(room, command):
+    """The part itself, and a link to it, are refused as the output."""
+    part, link = room.put("part.stl", bytes_of(BRACKET)), room.file("link.stl")
+    os.link(part, link)
+    for out in (part, link):
+        room.refused(1, f"%s: {out} is the part itself", *command, part, out)
+    assert room.get("part.stl") == bytes_of(BRACKET), "the part has changed"
+    return part, link
 
 
 def printed(data):

@@ -97,6 +97,13 @@ class Room:
     def get(self, *names):
         return bytes_of(self.path, *names)
 
+    def tools(self, *names):
+        """A folder of the room with these tools alone."""
+        os.makedirs(self.file("tools"), exist_ok=True)
+        for name in names:
+            os.symlink(shutil.which(name), self.file("tools", name))
+        return self.file("tools")
+
     def with_env(self, **more):
         return {**self.environment, **more}
 
@@ -114,10 +121,16 @@ class Room:
         ran = subprocess.run(words, stdout=subprocess.PIPE, stderr=subprocess.PIPE, **how)
         return Ran(ran.returncode, ran.stdout.decode() if text else ran.stdout, ran.stderr.decode(errors="backslashreplace"))
 
+    def done(self, *words, **how):
+        """A run that ends with status 0."""
+        ran = self.run(*words, **how)
+        same(ran.status, 0, f"status of {' '.join(map(str, words))}, which says {ran.fault!r}")
+        return ran
+
     def out(self, *words, **how):
         """The standard output of a run that ends with status 0 and says nothing else."""
-        ran = self.run(*words, **how)
-        same((ran.status, ran.fault), (0, ""), f"status and faults of {' '.join(map(str, words))}")
+        ran = self.done(*words, **how)
+        same(ran.fault, "", f"faults of {' '.join(map(str, words))}")
         return ran.out
 
     def bash(self, script, *words, **how):
@@ -149,6 +162,12 @@ class Case(unittest.TestCase):
         with self.subTest(why):
             self.skipTest(why)
 
+    def lacks(self, what, *tools):
+        """Whether one of these tools isn't here. What needs them is then left out."""
+        if lacking(*tools):
+            self.leave_out(f"{what}: {lacking(*tools)}")
+        return bool(lacking(*tools))
+
 
 class Together(Case):
     """Tests that share one room, in which `make_ready` has made what they look at."""
@@ -177,12 +196,23 @@ def example(name):
     return os.path.join(ROOT, "examples", name)
 
 
+BRACKET, GEAR = example("bracket.stl"), example("helical_gear.stl")
+
+
 def version():
     """The version that the program is built with, as it stands in the source."""
     return re.search(r'(?m)^const VERSION: &str = "([^ ]+) ', text_of("crates/task_words/src/command.rt"))[1]
 
 
+def number_of(text):
+    """A version as a number, of which minor and patch take three digits each."""
+    major, minor, patch = map(int, text.split("."))
+    return major * 1000000 + minor * 1000 + patch
+
+
 LIBRARY = os.path.join("build", "library", f"libstlslice.so.{version()}")
+# a program in C that prints the library's version
+TELLS_VERSION = '#include <stdio.h>\n#include <stlslice.h>\nint main(void) { return printf("%u\\n", stlslice_version()) < 0; }\n'
 
 
 def is_old(target):
@@ -248,6 +278,17 @@ def alone(name, room):
     if not os.path.lexists(room.file("alone", "share")):
         os.symlink(os.path.join(os.path.dirname(installed()), "share"), room.file("alone", "share"))
     return shutil.copy(installed(name), room.file("alone", "bin"))
+
+
+def commands_work(folder, room):
+    """The program and the commands of a folder slice a part, and each finds the program beside itself: no other is on PATH."""
+    part, env = ["--layer", "1000", BRACKET], room.with_env(PATH="/usr/local/bin:/usr/bin:/bin")
+    for name, told, *words in (("", "facets ", "--box"), ("-page", "27 layers", *part, "page.html"),
+                               ("-sl1", "27 layers", "--canvas", "800x400", "--pitch", "50", *part, "part.sl1"),
+                               ("-pngs", "27 layers", "--printer", "SL1", *part, "pngs"),
+                               ("-slabs", "--grid=", "--words", BRACKET)):
+        found = room.out(os.path.join(folder, f"stlslice{name}"), *words, path=BRACKET, cwd=room.path, env=env)
+        assert told in found, f"stlslice{name}: {found}"
 
 
 def has_ended(pid):

@@ -1,6 +1,7 @@
 """stlslice-sl1 and stlslice-pngs, as installed: each pixel beside the slicer's own P4 stream, the place on the canvas, what
 is refused, and that a fault leaves nothing."""
 
+import itertools
 import os
 import re
 import shutil
@@ -10,14 +11,12 @@ import sys
 import time
 import zipfile
 
-from as_installed import IMAGE, PAGE, PNGS, SL1, TINY, image_for, printed, slicer
-from common import Case, alone, bytes_of, example, has_ended, name_of, same, text_of, waited
+from as_installed import IMAGE, OPEN, OPEN_LINE, PAGE, PNGS, SL1, TINY, image_for, keeps_the_part, printed, slicer, wrong_words
+from common import BRACKET, GEAR, Case, alone, bytes_of, example, has_ended, name_of, same, text_of, waited
 from parts import archived, box, centred, layers_of, lit, middle, pixels_of_png, png_of_p4, text, turned_over, zipped
 
 SMALL = ["--canvas", "331x203", "--pitch", "200", "--layer", "500", "--workers", "2"]
-BRACKET = example("bracket.stl")
 CUBE = box((0, 0, 0), (1, 1, 1))
-OPEN, OPEN_LINE = text(CUBE[1:]), "stlslice: open edge 0 0 0 to 0 1000 0 there 0 back 1"
 
 
 def opened(path):
@@ -178,12 +177,9 @@ class Archives(Case):
             self.refused(1, f"%s: {line.format(out)}", "--program", never, BRACKET, out, command=command)
 
     def test_the_part_is_not_overwritten(self):
-        part, link = self.room.put("part.stl", bytes_of(BRACKET)), self.room.file("link.stl")
-        os.link(part, link)
-        for out in (part, link):
-            self.refused(1, f"%s: {out} is the part itself", part, out)
-            for command in (SL1, PAGE):
-                self.refused(1, f"%s: {out} is the part itself", "-", out, command=command, path=part)
+        part, link = keeps_the_part(self.room, [SL1, *SMALL])
+        for out, command in itertools.product((part, link), (SL1, PAGE)):
+            self.refused(1, f"%s: {out} is the part itself", "-", out, command=command, path=part)
         assert self.room.get("part.stl") == bytes_of(BRACKET), "the part has changed"
         line = "%s: . is the current folder, which can't be made"
         self.refused(1, line, BRACKET, ".", command=PNGS, cwd=self.room.path)
@@ -206,19 +202,19 @@ class Archives(Case):
             self.refused(status, line, *words, self.room.put("part.stl", bad), self.room.file("out2"))
 
     def test_pngs_are_taken_as_they_are(self):
-        part, out = example("helical_gear.stl"), self.room.file("out")
-        grid = middle(self.room.out("stlslice", "--box", path=part), (331, 203), 200, 500)
+        out = self.room.file("out")
+        grid = middle(self.room.out("stlslice", "--box", path=GEAR), (331, 203), 200, 500)
         for more in (["--depth", "8"], ["--depth", "1", "--mirror-x"], ["--depth", "8", "--mirror-x", "--mirror-y"]):
             words = ["--pitch", "200", "--layer", "500", "--rule", "positive", grid, "--png", *more]
-            wanted = self.room.out("stlslice", *words, path=part, text=False)
-            same(self.sliced(*more, part, out).status, 0, "archive")
+            wanted = self.room.out("stlslice", *words, path=GEAR, text=False)
+            same(self.sliced(*more, GEAR, out).status, 0, "archive")
             with zipfile.ZipFile(out) as archive:
                 entries = [it for it in archive.infolist() if it.filename.endswith(".png")]
                 assert b"".join(map(archive.read, entries)) == wanted, f"{more}: the archive has other PNGs"
                 for it in entries:
                     assert it.compress_type == zipfile.ZIP_DEFLATED and it.compress_size < it.file_size, "not deflated"
             os.remove(out)
-            same(self.sliced(*more, part, out, command=PNGS).status, 0, "folder")
+            same(self.sliced(*more, GEAR, out, command=PNGS).status, 0, "folder")
             found = b"".join(bytes_of(out, name) for name in sorted(os.listdir(out)))
             assert found == wanted, f"{more}: the folder has other PNGs"
             shutil.rmtree(out)
@@ -243,9 +239,7 @@ WRONG = {
     "--height=0": "it takes millimetres above 0 and below 1000000, as 150 or 149.5",
     "--exposure=0": SECONDS, "--first-exposure=-2": SECONDS, "--fade=1000": "it takes a whole number, 0 to 999",
     "--turn=half": "it takes auto, or no value", "--turn=quarter": "it takes auto, or no value",
-    # what follows in these lines is argparse's own, and not the same in each Python
-    "--rule=xor": "invalid choice: 'xor'",
-    "--unit=foot": "invalid choice: 'foot'", "--depth=2": "invalid choice: 2",
+    "--rule=xor": "invalid choice: 'xor'", "--unit=foot": "invalid choice: 'foot'", "--depth=2": "invalid choice: 2",
 }
 
 
@@ -256,18 +250,13 @@ class Words(Case):
         for words, line in (*cases, ([], "the following arguments are required: part, output"),
                             (["part.stl", "out", "--expo", "2"], "unrecognized arguments: --expo 2"),
                             (["part.stl", "out", "--fade"], "argument --fade: expected one argument")):
-            ran = self.room.run(SL1, *words, cwd=self.room.path)
-            last = ran.fault.splitlines()[-1].split(" (choose from ")[0]
-            same((ran.status, ran.out, last), (2, "", f"stlslice-sl1: error: {line}"), str(words))
-        same(self.room.files(), [], "files")
+            wrong_words(self.room, line, SL1, *words)
 
     def test_empty_names_are_refused(self):
         for command in (SL1, PNGS, PAGE):
             for words, which in ((["", "out"], "part"), ([BRACKET, ""], "output")):
-                ran = self.room.run(command, "--canvas", "99x99", "--pitch", "50", *words, cwd=self.room.path)
-                line = f"{name_of(command)}: error: argument {which}: it takes a name"
-                same((ran.status, ran.out, ran.fault.splitlines()[-1]), (2, "", line), f"an empty name of the {which}")
-        same(self.room.files(), [], "files")
+                line = f"argument {which}: it takes a name"
+                wrong_words(self.room, line, command, "--canvas", "99x99", "--pitch", "50", *words)
 
     def test_a_missing_program_is_told(self):
         room = self.room
@@ -295,20 +284,17 @@ class Words(Case):
             assert "1 to 64 (1)" in " ".join(told.split()), told
 
     def test_options_are_those_of_the_page(self):
-        """The table of docs/printing.md has those of stlslice-sl1, with their defaults; stlslice-pngs has all but four."""
+        """The table of docs/printing.md has those of stlslice-sl1, with their defaults."""
         told = {}
         for names, defaults in re.findall(r"(?m)^\| (`--[^|]*) \| ([^|]*) \|", text_of("docs/printing.md")):
             names = re.findall(r"--[a-z-]+", names)
             defaults = defaults.replace("`", "").split(", ")
             told.update(zip(names, defaults if len(defaults) == len(names) else [None] * len(names)))
-        env = self.room.with_env(COLUMNS="80")
-        helps = [" ".join(self.room.run(command, "--help", env=env).out.split()) for command in (SL1, PNGS)]
-        sl1, pngs = (set(re.findall(r"\[(--[a-z-]+)", it)) for it in helps)
-        same(set(told), sl1, "options of stlslice-sl1")
-        same(sl1 - pngs, {"--exposure", "--first-exposure", "--fade", "--material"}, "options of stlslice-sl1 alone")
+        shown = " ".join(self.room.run(SL1, "--help", env=self.room.with_env(COLUMNS="80")).out.split())
+        same(set(told), set(re.findall(r"\[(--[a-z-]+)", shown)), "options of stlslice-sl1")
         tried = 0
         for name, default in told.items():
-            said = re.search(rf"(?<!\[){name} (?:[A-Z][A-Za-z]*|\{{\S*\}}) .*?\(([^ ,)]+)", helps[0])
+            said = re.search(rf"(?<!\[){name} (?:[A-Z][A-Za-z]*|\{{\S*\}}) .*?\(([^ ,)]+)", shown)
             if default and re.match(r"[\dA-Z]|positive$|mm$", default):
                 number = re.fullmatch(r"[\d.]+", default)
                 same(float(said[1]) if number else said[1], float(default) if number else default, f"default of {name}")

@@ -52,15 +52,13 @@ class ReadBack(Case):
             part, out, apart = room.put("part.stl", body), room.file("out.sl1"), room.file("apart")
             wanted = centred(room, turned(body) if "SL1S" in words else body, canvas, *numbers)
             wanted = [mirrored(rows, *mirrors) for rows in wanted]
-            ran = room.run(installed("stlslice-sl1"), *words.split(), part, out)
-            same(ran.status, 0, f"status ({ran.fault})")
+            room.done(installed("stlslice-sl1"), *words.split(), part, out)
             room.out("unzip", "-d", apart, out)
             names = [f"out{number:05}.png" for number in range(len(wanted))]
             same(sorted(os.listdir(apart)), ["config.ini", *names, "prusaslicer.ini"], "names in the archive")
             self.compared(apart, names, canvas, wanted, words)
             shutil.rmtree(apart)
-            ran = room.run(installed("stlslice-pngs"), *words.split(), part, apart)
-            same(ran.status, 0, f"status ({ran.fault})")
+            room.done(installed("stlslice-pngs"), *words.split(), part, apart)
             names = sorted(os.listdir(apart))
             self.compared(apart, names[:3] + names[-3:], canvas, wanted[:3] + wanted[-3:], f"{words}, a folder")
             shutil.rmtree(apart)

@@ -29,9 +29,8 @@ class Benchmarks(Case):
 
     def test_a_table_has_date_machine_times_and_memory(self):
         days = [datetime.date.today()]
-        ran = self.room.run(TABLE, PROGRAM, *FEW)
+        ran = self.room.done(TABLE, PROGRAM, *FEW)
         days.append(datetime.date.today())
-        same(ran.status, 0, "status of the table")
         assert any(f"\n- Date: {it}\n" in ran.out for it in days), f"no date: {ran.out}"
         assert re.search(r"\n- Machine: .+, \d+ processors, \d+ GiB\n", ran.out), f"no machine: {ran.out}"
         (name, *cells), = rows(ran.out)
@@ -39,8 +38,7 @@ class Benchmarks(Case):
         assert all(re.fullmatch(r"\d+\.\d{3} s, \d+ MiB", it) for it in cells), cells
 
     def test_a_table_beside_another_slicer_has_ratios(self):
-        ran = self.room.run(TABLE, PROGRAM, PROGRAM, "--about=It is the same.", *FEW)
-        same(ran.status, 0, "status of the table")
+        ran = self.room.done(TABLE, PROGRAM, PROGRAM, "--about=It is the same.", *FEW)
         (_, *cells), = rows(ran.out)
         assert all(re.fullmatch(r"\d+\.\d{3} s, \d+ MiB \(\d+\.\d\d, \d\.\d\)", it) for it in cells), cells
         assert " That slicer writes the same bytes. It is the same.\n" in ran.out, "it doesn't say what the other one is"

@@ -4,7 +4,8 @@ same bytes. lintian reports no fault in them beyond what the packages' overrides
 import os
 import re
 
-from common import LIBRARY, PROGRAM, Together, bytes_of, example, library, links_hold, needs, same, version
+from common import (LIBRARY, PROGRAM, TELLS_VERSION, Together, bytes_of, commands_work, library, links_hold, needs, same,
+                    version)
 
 PLACES = """./usr/bin/stlslice ./usr/share/man/man1/stlslice.1.gz ./usr/share/doc/stlslice/copyright
 ./usr/share/doc/stlslice/changelog.gz ./usr/share/doc/stlslice/examples/bracket.stl
@@ -25,14 +26,6 @@ FILES = {
                         "usr/share/doc/libstlslice-dev/page.png": "docs/page.png",
                         "usr/share/doc/libstlslice-dev/copyright": "LICENSE"},
 }
-TOLD = '#include <stdio.h>\n#include <stlslice.h>\nint main(void) { return printf("%u\\n", stlslice_version()) < 0; }\n'
-
-
-def made(room, name, script, built, wanted):
-    """The packages of a script, in an own folder of the room, each of these names."""
-    room.out(script, built, version(), room.file(name))
-    same(sorted(os.listdir(room.file(name))), sorted(wanted), "packages")
-    return [room.file(name, it) for it in wanted]
 
 
 def listed(room, package):
@@ -40,58 +33,57 @@ def listed(room, package):
     return {line[5]: (line[0], line[1]) for line in lines}
 
 
-@needs("dpkg-deb", "make")
-class OfProgram(Together):
+class Packages:
+    """What is tried of the packages with these NAMES, once they are made and opened. Several are those of the library too."""
+
     @classmethod
     def make_ready(cls, room):
-        cls.words = ["tools/deb", PROGRAM, [f"stlslice_{version()}-1_amd64.deb"]]
-        cls.package, = made(room, "one", *cls.words)
-        room.run("dpkg-deb", "-x", cls.package, room.file("opened"))
+        cls.packages = cls.made(room, "one")
+        for package in cls.packages:
+            room.run("dpkg-deb", "-x", package, room.file("opened"))
 
-    def test_it_is_made_alike_again(self):
-        again, = made(self.room, "again", *self.words)
-        assert bytes_of(self.package) == bytes_of(again), "other bytes"
+    @classmethod
+    def made(cls, room, name):
+        """The packages, in an own folder of the room."""
+        room.out("tools/deb", PROGRAM, version(), room.file(name), *([library()] if len(cls.NAMES) > 1 else []))
+        wanted = [f"{it}_{version()}-1_amd64.deb" for it in cls.NAMES]
+        same(sorted(os.listdir(room.file(name))), sorted(wanted), "packages")
+        return [room.file(name, it) for it in wanted]
+
+    def test_they_are_made_alike_again(self):
+        again = self.made(self.room, "again")
+        assert list(map(bytes_of, self.packages)) == list(map(bytes_of, again)), "other bytes"
+
+    @needs("lintian")
+    def test_lintian_finds_no_fault(self):
+        same(self.room.run("lintian", "--allow-root", *self.packages).out, "", "what lintian has to say")
+
+
+@needs("dpkg-deb", "make")
+class OfProgram(Packages, Together):
+    NAMES = ["stlslice"]
 
     def test_its_places_are_roots(self):
-        files = listed(self.room, self.package)
+        files = listed(self.room, self.packages[0])
         for place in PLACES:
             assert place in files and files[place][1] == "root/root", f"{place}: {files.get(place)}"
         beside = [it for it in files if it.startswith(("./usr/lib/", "./usr/include/"))]
         same(beside, [], "what it has of the library, which is a package of its own")
 
     def test_its_commands_run(self):
-        part = example("bracket.stl")
-        told = self.room.run(self.room.file("opened/usr/bin/stlslice"), "--box", path=part)
-        assert told.status == 0 and told.out.startswith("facets "), told
-        for words in (["stlslice-sl1", "--printer", "SL1S", part, self.room.file("out.sl1")],
-                      ["stlslice-page", part, self.room.file("page.html")]):
-            told = self.room.out(self.room.file("opened/usr/bin", words[0]), *words[1:])
-            assert "540 layers" in told, f"{words[0]}: {told}"
+        commands_work(self.room.file("opened/usr/bin"), self.room)
 
     def test_links_of_its_documents_hold(self):
         links_hold(self.room.file("opened/usr/share/doc/stlslice"))
 
-    @needs("lintian")
-    def test_lintian_finds_no_fault(self):
-        same(self.room.run("lintian", "--allow-root", self.package).out, "", "what lintian has to say")
-
 
 @needs("dpkg-deb", "dpkg", "make")
-class OfLibrary(Together):
-    @classmethod
-    def make_ready(cls, room):
-        cls.words = ["tools/deb_library", library(), [f"{it}_{version()}-1_amd64.deb" for it in FILES]]
-        cls.packages = made(room, "one", *cls.words)
-        for package in cls.packages:
-            room.run("dpkg-deb", "-x", package, room.file("opened"))
-
-    def test_they_are_made_alike_again(self):
-        again = made(self.room, "again", *self.words)
-        assert list(map(bytes_of, self.packages)) == list(map(bytes_of, again)), "other bytes"
+class OfLibrary(Packages, Together):
+    NAMES = ["stlslice", *FILES]
 
     def test_each_file_is_in_one_of_them_as_built(self):
         seen = set()
-        for package, (name, wanted) in zip(self.packages, FILES.items()):
+        for package, (name, wanted) in zip(self.packages[1:], FILES.items()):
             files = {place[2:]: told for place, told in listed(self.room, package).items() if not told[0].startswith("d")}
             same(seen & set(files), set(), f"what {name} has of the other's")
             seen |= set(files)
@@ -106,15 +98,11 @@ class OfLibrary(Together):
         same(told[:3], ["prefix=/usr", f"libdir=/{LIB}", "includedir=/usr/include"], "places in stlslice.pc")
         linked = re.findall(r"\]\(([^)#]+)", self.room.get("opened/usr/share/doc/libstlslice-dev/embedding.md").decode())
         same(sorted(linked), ["page.png", "preview.png"], "what its document links to")
-        depends = self.room.run("dpkg-deb", "-f", self.packages[1], "Depends").out
+        depends = self.room.run("dpkg-deb", "-f", self.packages[2], "Depends").out
         assert f"libstlslice1 (= {version()}-1)" in depends, f"one wants the other, of just its version: {depends}"
 
     @needs("cc")
     def test_a_program_is_built_with_them(self):
-        source, program, opened = self.room.put("told.c", TOLD), self.room.file("told"), self.room.file("opened")
+        source, program, opened = self.room.put("told.c", TELLS_VERSION), self.room.file("told"), self.room.file("opened")
         self.room.out("cc", source, f"-I{opened}/usr/include", f"-L{opened}/{LIB}", "-lstlslice", "-o", program)
         self.room.out(program, env=self.room.with_env(LD_LIBRARY_PATH=self.room.file("opened", LIB)))
-
-    @needs("lintian")
-    def test_lintian_finds_no_fault(self):
-        same(self.room.run("lintian", "--allow-root", *self.packages).out, "", "what lintian has to say")

@@ -7,10 +7,10 @@ import os
 import shutil
 import tarfile
 
-from common import PROGRAM, ROOT, Together, bytes_of, example, library, links_hold, needs, same, version
+from common import (PROGRAM, ROOT, TELLS_VERSION, Together, bytes_of, commands_work, library, links_hold, needs, number_of,
+                    same, version)
 
 WITHOUT = "tools/dist: the library isn't built (make library), so the tarball has the program alone\n"
-TOLD = '#include <stdio.h>\n#include <stlslice.h>\nint main(void) { return printf("%u\\n", stlslice_version()) < 0; }\n'
 
 
 def made(room, name, umask, *built):
@@ -29,34 +29,29 @@ def made(room, name, umask, *built):
     return tarball
 
 
-def unpacked(room, tarball):
-    with tarfile.open(tarball) as archive:
-        archive.extractall(room.file("opened"))
-    folder, = glob.glob(room.file("opened", "*"))
-    return folder
+class Tarball:
+    """What is tried of a tarball of the program, and of what `beside` gives. It is unpacked into `folder`."""
 
+    beside = []
 
-class OfProgram(Together):
     @classmethod
     def make_ready(cls, room):
-        cls.tarball = made(room, "one", 22)
-        cls.folder = unpacked(room, cls.tarball)
+        cls.tarball = made(room, "one", 22, *cls.beside)
+        with tarfile.open(cls.tarball) as archive:
+            archive.extractall(room.file("opened"))
+        cls.folder, = glob.glob(room.file("opened", "*"))
 
     def test_it_is_made_alike_again(self):
-        assert bytes_of(self.tarball) == bytes_of(made(self.room, "another", 77)), "other bytes"
+        assert bytes_of(self.tarball) == bytes_of(made(self.room, "another", 77, *self.beside)), "other bytes"
 
+
+class OfProgram(Tarball, Together):
     def test_its_sum_and_its_name_are_right(self):
         same(os.path.basename(self.folder), os.path.basename(self.tarball)[:-len(".tar.gz")], "the folder's name")
         same(self.room.run("sha256sum", "-c", "SHA256SUMS", cwd=self.folder).out, "stlslice: OK\n", "sha256sum -c")
 
     def test_its_commands_run_where_it_is_unpacked(self):
-        told = self.room.run(os.path.join(self.folder, "stlslice"), "--box", path=example("bracket.stl"))
-        assert told.status == 0 and told.out.startswith("facets "), told
-        part, env = "examples/bracket.stl", self.room.with_env(PATH="/usr/local/bin:/usr/bin:/bin")
-        for words in (["./stlslice-sl1", part, "part.sl1", "--canvas", "800x400", "--pitch", "50"],
-                      ["./stlslice-pngs", part, "pngs", "--printer", "SL1", "--layer", "500"],
-                      ["./stlslice-page", part, "page.html"], ["./stlslice-slabs", "--words", part]):
-            self.room.out(*words, cwd=self.folder, env=env)
+        commands_work(self.folder, self.room)
 
     def test_it_has_what_goes_with_the_program(self):
         for name in ("README.md", "LICENSE", "stlslice.1", "completions/_stlslice", "docs/PROVED.md", "CONTRIBUTING.md",
@@ -66,14 +61,11 @@ class OfProgram(Together):
         links_hold(self.folder)
 
 
-class WithLibrary(Together):
+class WithLibrary(Tarball, Together):
     @classmethod
     def make_ready(cls, room):
-        cls.tarball = made(room, "one", 22, library())
-        cls.folder = unpacked(room, cls.tarball)
-
-    def test_it_is_made_alike_again(self):
-        assert bytes_of(self.tarball) == bytes_of(made(self.room, "another", 77, library())), "other bytes"
+        cls.beside = [library()]
+        super().make_ready(room)
 
     def test_its_sums_and_links_are_right(self):
         shared = f"libstlslice.so.{version()}"
@@ -84,9 +76,8 @@ class WithLibrary(Together):
 
     @needs("pkg-config", "cc")
     def test_a_program_is_made_with_what_was_unpacked(self):
-        self.room.put("told.c", TOLD)
+        self.room.put("told.c", TELLS_VERSION)
         env = self.room.with_env(PKG_CONFIG_PATH=f"{self.folder}/lib/pkgconfig", LD_LIBRARY_PATH=f"{self.folder}/lib")
         script = "cc told.c $(pkg-config --cflags --libs stlslice) -o told && ./told"
         told = self.room.bash(script, env=env, cwd=self.room.path)
-        number = sum(int(part) * 1000**at for at, part in enumerate(reversed(version().split("."))))
-        same(told, (0, f"{number}\n", ""), "a program made with the library")
+        same(told, (0, f"{number_of(version())}\n", ""), "a program made with the library")

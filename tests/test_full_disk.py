@@ -1,13 +1,18 @@
 """The commands on a full disk, which is a small file system of the test's own: one line, status 1, and what was there before
-stays. GNU parallel doesn't look at its own writes, so stlslice-slabs has to."""
+stays. GNU parallel doesn't look at its own writes, so stlslice-slabs has to. And the program under a limit of the size of
+files (`ulimit -f`), which ends it by its signal, as it ends any other. If the signal is ignored, the write fails, and the line
+counts the bytes that went out."""
 
 import os
+import resource
 import shutil
+import signal
+import subprocess
 
 from as_installed import PAGE, PNGS, SL1, SLABS, slicer
-from common import Case, example, needs, same, skip
+from common import BRACKET, PROGRAM, Case, needs, same, skip
+from parts import box, text
 
-BRACKET = example("bracket.stl")
 FULL = "No space left on device"
 LAYER = 13 + 1000 * 125  # bytes of an image of 1000 x 1000 pixels
 LARGE = ["--canvas", "900x900", "--pitch", "50"]
@@ -91,3 +96,28 @@ class FullDisk(Case):
         env = self.room.with_env(TMPDIR=self.disk)
         self.room.refused(1, f"%s: {FULL}: {self.disk}", SL1, *LARGE, BRACKET, "-", env=env)
         self.holds_as_before()
+
+
+LIMIT = 100_000
+WORDS = [PROGRAM, "--pitch", "10", "--layer", "1000"]
+CUBE = text(box((0, 0, 0), (10, 10, 10))).encode()
+
+
+def limited(handler):
+    """What a child does before the program: the limit, and what its signal does."""
+    def prepare():
+        signal.signal(signal.SIGXFSZ, handler)
+        resource.setrlimit(resource.RLIMIT_FSIZE, (LIMIT, LIMIT))
+    return prepare
+
+
+class FileSize(Case):
+    def test_a_limit_of_file_size_ends_a_run(self):
+        whole = self.room.out(*WORDS, input=CUBE, text=False)
+        line = b"stlslice: write failed after %d bytes\n" % LIMIT
+        for handler, wanted in ((signal.SIG_DFL, (-signal.SIGXFSZ, b"")), (signal.SIG_IGN, (7, line))):
+            with open(self.room.file("images"), "wb") as sink:
+                done = subprocess.run(WORDS, input=CUBE, stdout=sink, stderr=subprocess.PIPE, preexec_fn=limited(handler),
+                                      timeout=60)
+            same((done.returncode, done.stderr), wanted, f"status and fault, {handler!r}")
+            same(self.room.get("images"), whole[:LIMIT], f"what was written, {handler!r}")

@@ -6,9 +6,9 @@ import io
 import os
 import sys
 
-from common import ROOT, Case, bytes_of, example, library, python_with, same, skip
+from common import BRACKET, ROOT, Case, bytes_of, library, python_with, same, skip
 
-TEXT = bytes_of(example("bracket.stl"))
+TEXT = bytes_of(BRACKET)
 
 
 class Lying(bytes):

@@ -8,7 +8,7 @@ import re
 import shlex
 import stat
 
-from common import PROGRAM, ROOT, Together, bytes_of, example, library, links_hold, needs, same, text_of, version
+from common import GEAR, PROGRAM, ROOT, Together, bytes_of, commands_work, library, links_hold, needs, same, text_of, version
 from parts import layers_of
 
 COMMANDS = ("stlslice", "stlslice-sl1", "stlslice-pngs", "stlslice-slabs", "stlslice-page")
@@ -78,13 +78,7 @@ class Install(Together):
             assert shown.status == 0 and "EXIT STATUS" in shown.out.replace("\x08", ""), f"{name}: {shown}"
 
     def test_the_commands_find_the_program_beside_themselves(self):
-        part = example("bracket.stl")
-        for words, told in ((["stlslice-page", "--layer", "1000", part, self.room.file("page.html")], "27 layers"),
-                            (["stlslice-sl1", "--printer", "SL1S", "--layer", "1000", part, self.room.file("out.sl1")], ""),
-                            (["stlslice-pngs", "--printer", "SL1", "--layer", "1000", part, self.room.file("out")], ""),
-                            (["stlslice-slabs", "--words", part], "")):
-            ran = self.room.run(self.in_place("bin", words[0]), *words[1:], env={"PATH": "/usr/bin:/bin"})
-            assert ran.status == 0 and ran.out and told in ran.out, f"{words[0]}: {ran}"
+        commands_work(self.in_place("bin"), self.room)
 
     def test_uninstall_removes_them_and_no_other(self):
         """So it does with those of the library, if that is built."""
@@ -96,7 +90,6 @@ class Install(Together):
 
 
 WARNINGS = ["-O2", "-Wall", "-Wextra", "-Wpedantic", "-Wconversion", "-Wshadow", "-Wcast-align", "-Werror"]
-GEAR = example("helical_gear.stl")
 
 
 def by_program(room, part):

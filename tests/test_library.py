@@ -25,8 +25,8 @@ class Library(Case):
 
     def made(self, name):
         proved = os.path.join(self.beside, "proved.a")
-        ran = self.room.run("library/build", "native", proved, self.room.file(name), version(), "/usr/local")
-        same(ran, (0, "", ""), f"status of library/build in {name}")
+        told = self.room.out("library/build", "native", proved, self.room.file(name), version(), "/usr/local")
+        same(told, "", "what library/build says")
         return {it: self.room.get(name, it) for it in os.listdir(self.room.file(name))}
 
     def test_it_is_made_alike_in_any_folder(self):

@@ -144,10 +144,6 @@ def spellings(pattern, value):
     return {plain(digits), plain(words)}
 
 
-def group_bits():
-    return int(re.search(r"const GROUP_BITS: u32 = (\d+);", text_of("crates/mesh_weld/src/by_hash/histogram.rt"))[1])
-
-
 class Limits(Case):
     def test_what_is_spelled_is_the_constant(self):
         told, found = self.room.run("stlslice", "--help").out, constants()
@@ -160,5 +156,6 @@ class Limits(Case):
                     assert is_told, f"{place} doesn't tell {name} as {' or '.join(sorted(spelled))}"
 
     def test_the_millimetres_of_a_counting_sort_are_its_bits(self):
+        bits = re.search(r"const GROUP_BITS: u32 = (\d+);", text_of("crates/mesh_weld/src/by_hash/histogram.rt"))[1]
         told = re.search(r"up to (\d+) mm", text_of("docs/decisions/facets-by-counting-sort.md"))[1]
-        same(told, str(2 ** group_bits() // 1000), "millimetres")
+        same(told, str(2 ** int(bits) // 1000), "millimetres")

@@ -4,7 +4,7 @@ import glob
 import re
 import shutil
 
-from common import ROOT, Case, bytes_of, lacking, needs, same, text_of
+from common import ROOT, Case, bytes_of, needs, same, text_of
 
 HEADINGS = ["NAME", "SYNOPSIS", "DESCRIPTION", "EXIT STATUS", "EXAMPLES", "DIAGNOSTICS", "SEE ALSO", "CAVEATS"]
 COMMANDS = ["stlslice-sl1", "stlslice-pngs", "stlslice-page", "stlslice-slabs"]
@@ -48,9 +48,7 @@ class Manuals(Case):
         for name in COMMANDS:
             found = self.examples(name)
             assert found and all(f"{name} " in line for line in found), f"{name}: examples {found}"
-            if name == "stlslice-slabs" and lacking("parallel"):
-                self.leave_out(f"the examples of stlslice-slabs: {lacking('parallel')}")
-            else:
+            if name != "stlslice-slabs" or not self.lacks("the examples of stlslice-slabs", "parallel"):
                 lines += found
         same(len(re.findall(r"(?m)^\.Dl \$ (.*)$", text_of("man/stlslice-page.1"))), 2, "examples of stlslice-page")
         self.room.put("part.stl", bytes_of("examples/bracket.stl"))

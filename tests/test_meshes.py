@@ -11,29 +11,15 @@ import sys
 import zipfile
 
 from as_installed import PAGE, PNGS, SHARE, SL1
-from common import Case, bytes_of, example, lacking, name_of, needs, same
-from parts import SIDES, box, text
+from common import BRACKET, Case, bytes_of, example, name_of, needs, same
+from parts import FACES, SIDES, box, formats, lines, obj, points, text
 
 from stlslice_commands import faults, meshes, parts
 
 SCREEN = ["--canvas", "160x120", "--pitch", "250", "--layer", "500"]
-FACES = [face for a, b, c, d in SIDES for face in ((a, b, c), (a, c, d))]
 LOW, HIGH = (0, 0, 0), (10, 20, 30)
 RELATIONSHIPS = ('<Relationships xmlns="http://schemas.openxmlformats.org/package/2006/relationships">'
                  f'<Relationship Target="/3D/3dmodel.model" Id="r" Type="{meshes.MODEL}"/></Relationships>')
-
-
-def lines(form, rows):
-    return "".join(form % tuple(row) for row in rows)
-
-
-def points(low, high):
-    return [tuple((low, high)[k >> axis & 1][axis] for axis in range(3)) for k in range(8)]
-
-
-def obj(low=LOW, high=HIGH, faces=SIDES):
-    return lines("v %s %s %s\n", points(low, high)) + "".join(
-        f"f {' '.join(str(k + 1) for k in face)}\n" for face in faces)
 
 
 def mesh(low, high):
@@ -291,7 +277,7 @@ class HostileFiles(Case):
     def test_mutated_files_are_taken_or_refused_in_one_line(self):
         """No fault but one with a line and a status of the commands, and no file is left."""
         draw, taken = random.Random(7), 0
-        bodies = {"3mf": packed(model()), "obj": obj().encode(), "xml": model().encode()}
+        bodies = {"3mf": packed(model()), "obj": obj(LOW, HIGH).encode(), "xml": model().encode()}
         given = type("Given", (), {"part": self.room.file("part"), "unit": "mm"})()
         for number in range(600):
             kind = ("3mf", "obj", "xml")[number % 3]
@@ -328,7 +314,7 @@ class Commands(Case):
 
     def test_archives_are_those_of_the_same_part_as_stl(self):
         wanted = self.stl()
-        self.room.put("part.obj", obj())
+        self.room.put("part.obj", obj(LOW, HIGH))
         self.room.put("inch.obj", obj(LOW, ("0.393700787", "0.787401575", "1.181102362")))
         packed_part = self.room.put("part.3mf", packed(model()))
         for words in (["part.obj"], ["part.3mf"], ["--shells", "part.3mf"], ["--unit", "inch", "inch.obj"]):
@@ -342,7 +328,7 @@ class Commands(Case):
     def test_faults_are_told_with_the_command_that_converts(self):
         self.room.put("part.obj", "v 0 0 0\ncurv 0 1 1\n")
         self.room.put("part.3mf", packed(model(words='requiredextensions="p"')))
-        self.room.put("open.obj", obj(faces=FACES[1:]))
+        self.room.put("open.obj", obj(LOW, HIGH, FACES[1:]))
         for status, name, line in (
                 (3, "part.obj", "%s: line 2 of the OBJ: curv isn't taken; convert it: assimp export part.obj part.stl"),
                 (3, "part.3mf",
@@ -352,7 +338,7 @@ class Commands(Case):
 
     def test_amf_and_off_are_told_with_a_line_that_works(self):
         wanted, corners = self.stl(), points(LOW, HIGH)
-        off = "OFF\n8 12 0\n" + lines("%d %d %d\n", corners) + lines("3 %d %d %d\n", FACES)
+        off = formats(LOW, HIGH)["off"]
         amf = ('<amf unit="millimeter"><object id="0"><mesh><vertices>'
                + lines("<vertex><coordinates><x>%d</x><y>%d</y><z>%d</z></coordinates></vertex>", corners)
                + "</vertices><volume>" + lines("<triangle><v1>%d</v1><v2>%d</v2><v3>%d</v3></triangle>", FACES)
@@ -363,12 +349,10 @@ class Commands(Case):
             self.room.put(name, body)
             command = f"assimp export {name} part.stl"
             self.refused(3, f"%s: the part is {kind}, not STL; convert it: {command}", name)
-            if lacking("assimp"):
-                self.leave_out(f"converting {kind}: {lacking('assimp')}")
-                continue
-            same(self.room.bash(command, cwd=self.room.path).status, 0, command)
-            same(self.archive("part.stl"), wanted, f"archive of {kind}")
-            os.remove(self.room.file("part.stl"))
+            if not self.lacks(f"converting {kind}", "assimp"):
+                self.room.done("bash", "-c", command, cwd=self.room.path)
+                same(self.archive("part.stl"), wanted, f"archive of {kind}")
+                os.remove(self.room.file("part.stl"))
 
     @needs("prusa-slicer")
     def test_a_3mf_of_prusaslicer_is_its_stl(self):
@@ -377,19 +361,18 @@ class Commands(Case):
         for kind in ("3mf", "stl"):
             words = ["--merge", f"--export-{kind}", "--output", f"plate.{kind}"]
             words += map(example, ("bracket.stl", "calibration_block.stl"))
-            same(self.room.run("prusa-slicer", *words, cwd=self.room.path).status, 0, f"status of {words}")
+            self.room.done("prusa-slicer", *words, cwd=self.room.path)
             told.append(json.loads(self.archive("--json", "--canvas", "400x400", f"plate.{kind}")[0]))
         (*found, volume), (*wanted, volume_there) = ([it[key] for key in ("layers", "size", "millilitres")] for it in told)
         same(found, wanted, "layers and size")
         assert abs(volume - volume_there) <= volume_there / 1000, f"{volume} ml, {volume_there} ml"
 
     def test_json_says_what_the_plain_line_says(self):
-        part = example("bracket.stl")
         for command, keys in ((SL1, ["seconds"]), (PNGS, []), (PAGE, ["bytes"])):
             name, out = name_of(command), f"out of {name_of(command)}\u00e4"
             words = [command, "--pitch", "200", "--layer", "500", "--canvas", "300x200"]
-            plain = self.room.out(*words, part, out + "2", cwd=self.room.path)
-            line = self.room.out(*words, "--json", part, out, cwd=self.room.path)
+            plain = self.room.out(*words, BRACKET, out + "2", cwd=self.room.path)
+            line = self.room.out(*words, "--json", BRACKET, out, cwd=self.room.path)
             told = json.loads(line)
             same((line.count("\n"), list(told), told["output"]),
                  (1, ["output", "layers", "size", "millilitres", *keys], out), name)

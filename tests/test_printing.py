@@ -11,14 +11,13 @@ import struct
 import zipfile
 import zlib
 
-from common import PROGRAM, ROOT, Case, add_batch_system, bytes_of, example, installed, lacking, same, text_of
+from common import BRACKET, PROGRAM, ROOT, Case, add_batch_system, bytes_of, example, installed, lacking, same, text_of
 from pages import blocks
 from parts import (box, chunks_at, lit, p4_images, pixels_of_p4, pixels_of_png, png_of_p4, pngs, read_by_netpbm, text,
                    turned_over, zipped)
 
 PAGE = os.path.join(ROOT, "docs", "printing.md")
 BLOCKS = blocks(PAGE)
-BRACKET = example("bracket.stl")
 TOOLS = {"python3": ["python3"], "netpbm": ["pamsplit", "pnminvert", "pnmtopng"], "gnuplot-nox": ["gnuplot"],
          "imagemagick": ["montage", "identify"], "zstd": ["zstd"], "parallel": ["parallel"], "rsync": [], "unzip": ["unzip"],
          "prusa-slicer": ["prusa-slicer"]}
@@ -157,9 +156,7 @@ class Printing(Case):
         found = [recipe for recipe in recipes() if not set(needed(recipe[1])) <= {"python3"}]
         assert len(found) >= 5, f"only {len(found)} blocks need a package"
         for recipe in found:
-            if lacking(*needed(recipe[1])):
-                self.leave_out(f"{recipe[1].head}: {lacking(*needed(recipe[1]))}")
-            else:
+            if not self.lacks(recipe[1].head, *needed(recipe[1])):
                 self.try_recipe(*recipe)
 
     def test_commands_of_the_tables_run(self):
@@ -208,9 +205,8 @@ class Printing(Case):
     def test_the_first_block_sets_the_folder_up(self):
         self.linked(self.room.path)
         script = block_of("setup").body + "command -v stlslice stlslice-sl1"
-        ran = self.room.bash(script, cwd=self.room.path, env={"PATH": "/usr/bin:/bin"})
-        found = "".join(self.room.file(name) + "\n" for name in ("build/stlslice", "commands/stlslice-sl1"))
-        same(ran, (0, found, ""), "setup")
+        told = self.room.out("bash", "-c", script, cwd=self.room.path, env={"PATH": "/usr/bin:/bin"})
+        same(told.splitlines(), [self.room.file(name) for name in ("build/stlslice", "commands/stlslice-sl1")], "setup")
         assert self.room.get("part.stl") == bytes_of(BRACKET), "another part"
 
     def test_a_canvas_that_is_too_small_is_refused(self):

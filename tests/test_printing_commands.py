@@ -10,9 +10,9 @@ import subprocess
 import sys
 import zipfile
 
-from as_installed import PAGE, PNGS, SHARE, SL1, slicer
-from common import PROGRAM, Case, bytes_of, example, lacking, name_of, same
-from parts import archived, binary, box, centred, lit, mirrored, pixels_of_png, text, turned_over
+from as_installed import PAGE, PNGS, SHARE, SL1, slicer, wrong_words
+from common import BRACKET, PROGRAM, Case, bytes_of, example, name_of, same
+from parts import SHORT_FACET, archived, binary, box, centred, formats, lit, mirrored, pixels_of_png, text, turned_over
 from terminal import shown_on_a_terminal
 
 SCREEN = ["--canvas", "160x120", "--pitch", "250", "--layer", "500"]
@@ -28,17 +28,6 @@ def turned(facets, quarters):
 
 def changed(facets, change):
     return [tuple(tuple(map(change, corner)) for corner in corners) for corners in facets]
-
-
-def formats(facets):
-    """The texts of other formats, by the ends of their names."""
-    corners = sorted({corner for facet in facets for corner in facet})
-    faces = [[corners.index(corner) for corner in facet] for facet in facets]
-    points, sides = ["%d %d %d" % it for it in corners], ["3 %d %d %d" % tuple(it) for it in faces]
-    head = ["ply", "format ascii 1.0", f"element vertex {len(corners)}", *(f"property float {it}" for it in "xyz"),
-            f"element face {len(faces)}", "property list uchar int vertex_index", "end_header"]
-    lines = {"ply": head + points + sides, "off": ["OFF", f"{len(corners)} {len(faces)} 0"] + points + sides}
-    return {kind: "\n".join(body) + "\n" for kind, body in lines.items()}
 
 
 LIMITED = """import sys
@@ -57,8 +46,7 @@ class Commands(Case):
     def made(self, *words, command=SL1):
         """What a command prints and says, and the archive's settings, profile and images; or a folder's images."""
         out = self.room.file("out")
-        ran = self.room.run(command, *words, out, env=self.room.with_env(SOURCE_DATE_EPOCH="1700000000"))
-        same(ran.status, 0, f"status of {words} ({ran.fault})")
+        ran = self.room.done(command, *words, out, env=self.room.with_env(SOURCE_DATE_EPOCH="1700000000"))
         if command == PNGS:
             images = [pixels_of_png(bytes_of(out, name)) for name in sorted(os.listdir(out))]
             shutil.rmtree(out)
@@ -121,8 +109,7 @@ class Commands(Case):
                     (["--printer", "SL1S", "--canvas", "9x9", part], brings + "--canvas"),
                     (["--printer", "SL1S", "--mirror-x", part], brings + "--mirror-x"),
                     (["--printer", "SL1S", "--height", "9", part], brings + "--height")):
-                last = self.refusal(2, *words, command=command).splitlines()[-1]
-                same(last, f"{name_of(command)}: error: {line}", f"refusal of {words}")
+                wrong_words(self.room, line, command, *words, "out")
             told = self.room.out(command, "--printer", "help")
             for word in ("SL1S  Original Prusa SL1S SPEED: 2560 x 1620 pixels, 128 x 81 x 150 mm\n    "
                          "from PrusaSlicer 2.5.0", "SL1  Original"):
@@ -198,8 +185,7 @@ class Commands(Case):
             wanted, found = (self.made(*SCREEN, *words, part) for part in (plain, other))
             same((wanted[1], found[1]), ("", ""), "what is said")
             assert (found[0], found[2:]) == (wanted[0], wanted[2:]), "the archive of a binary part differs"
-        ran = self.room.run(PNGS, *SCREEN, "-", self.room.file("pngs"), path=other)
-        same((ran.status, ran.fault), (0, ""), "binary on standard input")
+        self.room.out(PNGS, *SCREEN, "-", self.room.file("pngs"), path=other)
         cut = self.room.put("cut.stl", bytes_of(other)[:1000])
         self.refused(3, "%s: the part is no text, and no whole binary STL: its header counts 36 facets, which take 1,884 "
                      "bytes, and it has 1,000", *SCREEN, cut)
@@ -211,16 +197,14 @@ class Commands(Case):
     def test_other_formats_are_told_with_a_command(self):
         """If its tool is here, that is run, and its STL gives the part's images."""
         room, facets = self.room, SHAPE[:12]
-        files = {kind: room.put(f"my part.{kind}", body) for kind, body in formats(facets).items()}
+        files = {kind: room.put(f"my part.{kind}", body) for kind, body in formats((0, 0, 0), (5, 20, 3)).items()}
         for kind, part in files.items():
             command = f"assimp export '{part}' '{part[:-4]}.stl'"
             self.refused(3, f"%s: the part is {kind.upper()}, not STL; convert it: {command}", *SCREEN, part)
-            if lacking(command.split()[0]):
-                self.leave_out(f"converting {kind}: {lacking(command.split()[0])}")
-                continue
-            same(room.bash(command).status, 0, command)
-            assert self.images(*SCREEN, room.file("my part.stl")) == self.centred(facets), f"{kind}: pixels differ"
-            os.remove(room.file("my part.stl"))
+            if not self.lacks(f"converting {kind}", command.split()[0]):
+                room.done("bash", "-c", command)
+                assert self.images(*SCREEN, room.file("my part.stl")) == self.centred(facets), f"{kind}: pixels differ"
+                os.remove(room.file("my part.stl"))
         packed = room.file("packed.zip")
         with zipfile.ZipFile(packed, "w") as archive:
             archive.writestr("part.stl", text(SHAPE))
@@ -228,27 +212,23 @@ class Commands(Case):
         packed = room.put("my part.stl.gz", gzip.compress(text(SHAPE).encode()))
         command = f"zcat '{packed}' > '{packed[:-3]}'"
         self.refused(3, f"%s: the part is gzip, not STL; unpack it: {command}", *SCREEN, packed)
-        same(room.bash(command).status, 0, command)
+        room.done("bash", "-c", command)
         assert self.images(*SCREEN, packed[:-3]) == self.centred(SHAPE), "gzip: pixels differ"
 
     def test_commands_of_refusals_keep_the_part(self):
         """Each makes a file that isn't there yet, of whatever name the part is, and works for that name."""
-        room, facets = self.room, box((0, 0, 0), (1, 1, 1))
-        texts = formats(facets)
+        room, ends = self.room, ((0, 0, 0), (1, 1, 1))
         for kind, body, way, command in (
-                ("gzip", gzip.compress(text(facets).encode()), "unpack", "zcat part.stl > part-2.stl"),
-                ("OFF", texts["off"], "convert", "cp part.stl part.off && assimp export part.off part-2.stl")):
+                ("gzip", gzip.compress(text(box(*ends)).encode()), "unpack", "zcat part.stl > part-2.stl"),
+                ("OFF", formats(*ends)["off"], "convert", "cp part.stl part.off && assimp export part.off part-2.stl")):
             room.put("part.stl", body)
             line = f"%s: the part is {kind}, not STL; {way} it: {command}"
             room.refused(3, line, SL1, *SCREEN, "part.stl", "out", cwd=room.path)
-            tool = command.split("&& ")[-1].split()[0]
-            if lacking(tool):
-                self.leave_out(f"converting {kind}: {lacking(tool)}")
-                continue
-            same(room.bash(command, cwd=room.path).status, 0, command)
-            body = room.get("part-2.stl")
-            same(body.count(b"endfacet") or int.from_bytes(body[80:84], "little"), 12, f"facets of {kind}")
-            os.remove(room.file("part-2.stl"))
+            if not self.lacks(f"converting {kind}", command.split("&& ")[-1].split()[0]):
+                room.done("bash", "-c", command, cwd=room.path)
+                body = room.get("part-2.stl")
+                same(body.count(b"endfacet") or int.from_bytes(body[80:84], "little"), 12, f"facets of {kind}")
+                os.remove(room.file("part-2.stl"))
         room.put("part-2.stl", b"")
         packed = room.put("part.stl.gz", gzip.compress(b""))
         for word, name in (("part.stl.gz", "part.stl.gz"), ("-", "part.gzip")):
@@ -351,8 +331,7 @@ class Commands(Case):
         assert self.images(*SCREEN, "--unit", "inch", "--shells", small) == self.centred(SHAPE), "inches: pixels differ"
 
     def test_too_many_facets_are_told(self):
-        facet = b"facet normal 0 0 0 outer loop vertex 0 0 0 vertex 0 0 0 vertex 0 0 0 endloop endfacet\n"
-        said = self.refusal(3, *SCREEN, self.room.put("part.stl", b"solid\n" + facet * 1_048_577))
+        said = self.refusal(3, *SCREEN, self.room.put("part.stl", b"solid\n" + SHORT_FACET * 1_048_577))
         assert re.fullmatch(r"stlslice: too many facets at byte \d+\nstlslice-sl1: a mesh has at most 1,048,576 facets; "
                             r"--shells slices a larger part shell by shell, if it has several\n", said), said
 
@@ -369,7 +348,7 @@ class Terminals(Case):
         """A stand-in for the slicer reads within no time, and slices until it is stopped; the line is taken away then."""
         path = slicer(self.room, "", start='case "$*" in *--box*) ;; *) exec sleep 60; esac')
         for command in (SL1, PNGS, PAGE):
-            words = [command, "--canvas", "99x99", "--pitch", "250", "--program", path, example("bracket.stl")]
+            words = [command, "--canvas", "99x99", "--pitch", "250", "--program", path, BRACKET]
             found = shown_on_a_terminal([*words, self.room.file("out")], b"slicing")
             same(found, (143, "", b"\r\x1b[Kreading\r\x1b[Kslicing\r\x1b[K"), name_of(command))
         same(self.room.files(), ["slicer"], "files")
@@ -401,7 +380,5 @@ class Terminals(Case):
         part = self.room.put("part.stl", binary([facet for facets in grid for facet in facets]))
         words = [SL1, "--canvas", "11520x5120", "--pitch", "19x24", "--layer", "50", part, self.room.file("out")]
         # asked by a small process, since a process counts the memory of the one that it was forked from
-        ran = self.room.run(sys.executable, "-c", MEASURED, *words)
-        same(ran.status, 0, f"status ({ran.fault})")
-        most = int(ran.out.split()[-1])
+        most = int(self.room.done(sys.executable, "-c", MEASURED, *words).out.split()[-1])
         assert 20_000 < most < 195_000, f"{most} KiB"

@@ -3,24 +3,23 @@
 import os
 import re
 
-from common import PROGRAM, ROOT, Case, example, same
+from common import GEAR, PROGRAM, ROOT, Case, same
 from parts import box, text
 from terminal import shown_on_a_terminal
 
-PART = example("helical_gear.stl")
 SLICE = ["--pitch", "100", "--layer", "50"]
 LAYERS = 240
 SHOWN = r"(slicing|writing) (\d+) %, (\d+) of (\d+) (layers|bytes)(?:, \d+ s left)?"
 
 # Words of runs that end well and of runs that fail, with the input of each.
-RUNS = [(SLICE, PART), (SLICE + ["--workers", "4"], PART), (SLICE + ["--report"], PART), (["--box"], PART),
-        (SLICE + ["--png"], PART), (SLICE + ["--png", "--depth", "1", "--workers", "4"], PART),
-        (SLICE + ["--probe", "1,1,1"], PART), (SLICE + ["--probe", "999,1,1"], PART), (["--pitch", "100"], PART),
-        (SLICE, os.path.join(ROOT, "README.md")), (["--pitch", "1", "--layer", "1"], PART)]
+RUNS = [(SLICE, GEAR), (SLICE + ["--workers", "4"], GEAR), (SLICE + ["--report"], GEAR), (["--box"], GEAR),
+        (SLICE + ["--png"], GEAR), (SLICE + ["--png", "--depth", "1", "--workers", "4"], GEAR),
+        (SLICE + ["--probe", "1,1,1"], GEAR), (SLICE + ["--probe", "999,1,1"], GEAR), (["--pitch", "100"], GEAR),
+        (SLICE, os.path.join(ROOT, "README.md")), (["--pitch", "1", "--layer", "1"], GEAR)]
 
 
 class Progress(Case):
-    def ran(self, words, path=PART):
+    def ran(self, words, path=GEAR):
         return self.room.run("stlslice", *words, path=path, text=False)
 
     def test_nothing_else_changes(self):
@@ -32,7 +31,7 @@ class Progress(Case):
             same(plain.fault.count("\n"), 1 if plain.status else 0, f"one line where it fails by {name}")
             assert watched.fault.endswith(plain.fault), f"the fault isn't behind the progress by {name}"
 
-    def lines_elsewhere(self, words, last, path=PART):
+    def lines_elsewhere(self, words, last, path=GEAR):
         """Without a terminal: a line for each tenth, of counts that rise to the whole in each phase."""
         found, name = [], " ".join(words)
         for line in self.ran(words + ["--progress"], path).fault.splitlines():
@@ -70,7 +69,7 @@ class Progress(Case):
         for words, below, output in ((SLICE, [""], os.devnull), (SLICE + ["--report"], [""], os.devnull),
                                      (SLICE + ["--png"], [""], os.devnull),
                                      (SLICE, ["stlslice: write failed after 0 bytes", ""], "/dev/full")):
-            with open(PART, "rb") as part, open(output, "wb") as sink:
+            with open(GEAR, "rb") as part, open(output, "wb") as sink:
                 shown = shown_on_a_terminal([PROGRAM, *words, "--progress"], stdin=part, stdout=sink)[2]
             bar, *rest = shown.decode().replace("\r\n", "\n").split("\n")
             name = f"{' '.join(words)} > {output}"
@@ -83,5 +82,5 @@ class Progress(Case):
                 assert shown and len(shown[2]) == int(shown[4]) * len(shown[1]) // 100, f"no bar: {shape!r}"
 
     def test_standard_error_may_be_closed(self):
-        closed = self.room.bash('exec "$@" 2>&-', PROGRAM, *SLICE, "--progress", path=PART, text=False)
+        closed = self.room.bash('exec "$@" 2>&-', PROGRAM, *SLICE, "--progress", path=GEAR, text=False)
         same((closed.status, len(closed.out)), (0, len(self.ran(SLICE).out)), "a run with standard error closed")

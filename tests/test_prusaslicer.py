@@ -38,8 +38,8 @@ class BesidePrusaSlicer(Case):
     def theirs(self, part, out, *place, **screen):
         """PrusaSlicer's archive of a part, by a profile for this screen."""
         profile = self.room.put("profile.ini", PROFILE.format(**screen))
-        ran = self.room.run("prusa-slicer", "--export-sla", "--load", profile, *place, "--output", out, part)
-        assert ran.status == 0 and os.path.exists(out), f"prusa-slicer: {ran.status}, {ran.fault[-300:]}"
+        ran = self.room.done("prusa-slicer", "--export-sla", "--load", profile, *place, "--output", out, part)
+        assert os.path.exists(out), f"prusa-slicer: {ran.fault[-300:]}"
 
     @needs("prusa-slicer")
     def test_pixels_and_settings_are_those_of_prusaslicer(self):
@@ -55,8 +55,7 @@ class BesidePrusaSlicer(Case):
             assert found == wanted, f"{name}: pixels differ"
             same(lines - lines_there, set(), f"{name}: lines that PrusaSlicer doesn't write")
             settings = room.put("prusaslicer.ini", zipped(ours)["prusaslicer.ini"])
-            ran = room.run("prusa-slicer", "--load", settings, "--save", again)
-            same(ran.status, 0, f"{name}: PrusaSlicer reads prusaslicer.ini ({ran.fault})")
+            room.done("prusa-slicer", "--load", settings, "--save", again)
             same(lines - set(text_of(again).splitlines()), set(), f"{name}: lines that are read back otherwise")
             os.remove(theirs)
 

@@ -116,8 +116,8 @@ class Reference(Together):
             same(entries, len(heads), f"entries of {page}")
             outside = re.findall(r"<code>Rattle\.(\w+)", re.search(r"From outside the repository: (.*?)</p>", text)[1])
             same(set(outside) - {"clap"}, {"std"}, f"crates from outside that {page} names")
-            shown = [it for it in text.split("<h3 ")[1:]]
-            blocks = [re.findall(r"(?s)<pre>(.*?)</pre>", it.split("What contracts see")[0])[-1] for it in shown]
+            shown = [it.split("What contracts see")[0] for it in text.split("<h3 ")[1:]]
+            blocks = [re.findall(r"(?s)<pre>(.*?)</pre>", it)[-1] for it in shown]
             lines = [plain(line).strip() for block in blocks for line in block.splitlines()]
             same(sum(1 for line in lines if line and not line.startswith(("--", "//"))), told, f"lines of {page}")
 

@@ -12,7 +12,7 @@ import re
 
 from common import ROOT, Case, bytes_of, example, installed, lacking, same, skip, text_of
 from pages import blocks
-from parts import SIDES, box, text, turned_over
+from parts import SHORT_FACET, SIDES, box, obj, points, text, turned_over
 from parts import binary as binary_stl
 
 PAGE = os.path.join(ROOT, "docs", "refused.md")
@@ -68,16 +68,12 @@ def cubes(facets):
     return [text(facets).encode()], text(cube()).encode()
 
 
-CORNERS = [(9 * (k & 1), 9 * (k >> 1 & 1), 9 * (k >> 2)) for k in range(8)]
+ENDS = (0, 0, 0), (9, 9, 9)
 
 
 def quads():
-    return [text([[CORNERS[k] for k in side] for side in SIDES], "q").encode()], text(cube(0, 9)).encode()
-
-
-def obj():
-    lines = ["v %d %d %d" % point for point in CORNERS] + ["f %d %d %d %d" % tuple(k + 1 for k in side) for side in SIDES]
-    return ["\n".join(lines + [""]).encode()], text(cube(0, 9)).encode()
+    corners = points(*ENDS)
+    return [text([[corners[k] for k in side] for side in SIDES], "q").encode()], text(box(*ENDS)).encode()
 
 
 def t_junction():
@@ -109,7 +105,7 @@ FILES = {
     "Compressed by gzip": ([gzip.compress(BRACKET, mtime=0)], BRACKET),
     "Binary STL": ([binary(b"made by a tool")], BRACKET),
     "Binary STL whose header begins with solid": ([binary(b"solid part"), binary(b"SOLID part\nby a tool")], BRACKET),
-    "Another format: OBJ, PLY, OFF, AMF, 3MF": obj(),
+    "Another format: OBJ, PLY, OFF, AMF, 3MF": ([obj(*ENDS).encode()], text(box(*ENDS)).encode()),
     "NUL or Ctrl-Z at the end": ([BRACKET + b"\0\0\0", BRACKET + b"\x1a"], BRACKET),
     "Comments": ([replaced(rb"\n", rb"\n# made by a tool\n", 1), replaced(rb"\n", rb"\n ; made by a tool\n")], BRACKET),
     "Keywords in two words": ([replaced(rb"end(facet|loop|solid)", rb"end \1"), replaced(rb"end(facet|solid)", rb"END \1")],
@@ -172,10 +168,9 @@ def block_of(word):
     return next(block.body for block in BLOCKS if block.words == [word])
 
 
-def lacking_for(section):
-    """What isn't here of what a heading's text says its command needs, or None if it needs nothing."""
-    named = [package for package in TOOLS if f"Needs `{package}`" in section[3]]
-    return lacking(*(TOOLS[it] for it in named)) if named else None
+def needed(section):
+    """The tools that a heading's text says its command needs."""
+    return [tool for package, tool in TOOLS.items() if f"Needs `{package}`" in section[3]]
 
 
 def faulty():
@@ -203,8 +198,7 @@ class Refused(Case):
             folder = re.sub(r"\W", "_", head) + str(number)
             os.mkdir(self.room.file(folder))
             self.room.put(f"{folder}/part.stl", data)
-            ran = self.room.bash(mend, cwd=self.room.file(folder))
-            same(ran.status, 0, f"{head}: the command's status ({ran.fault})")
+            self.room.done("bash", "-c", mend, cwd=self.room.file(folder))
             told = self.room.out("stlslice", *words, path=self.room.file(folder, "mended.stl"))
             same(told.splitlines()[-1], wanted.splitlines()[-1], f"{head}, file {number}: the mended part")
             if head != "Corners that nearly meet":
@@ -221,25 +215,22 @@ class Refused(Case):
                     same(found[1], lines[number] + "\n", head)
 
     def test_files_are_mended(self):
-        plain = {head: section for head, section in faulty().items() if section[2] and lacking_for(section) is None}
+        plain = {head: section for head, section in faulty().items() if section[2] and not needed(section)}
         assert len(plain) >= 15, f"only {len(plain)} commands need no package"
         for head, section in plain.items():
             self.mended(head, section[2])
 
     def test_files_are_mended_by_tools(self):
-        found = {head: section for head, section in faulty().items() if section[2] and lacking_for(section) is not None}
+        found = {head: section for head, section in faulty().items() if section[2] and needed(section)}
         assert len(found) >= 8, f"only {len(found)} commands need a package"
         for head, section in found.items():
-            if lacking_for(section):
-                self.leave_out(f"{head}: {lacking_for(section)}")
-            else:
+            if not self.lacks(head, *needed(section)):
                 self.mended(head, section[2])
 
     def test_too_many_facets_are_refused(self):
         status, lines, _, _ = sections()["More than 1,048,576 facets"]
-        facet = b"facet normal 0 0 0 outer loop vertex 0 0 0 vertex 0 0 0 vertex 0 0 0 endloop endfacet\n"
-        front = b"solid\n" + facet * 1_048_576
-        found = self.refused(front + facet, ["--box"])
+        front = b"solid\n" + SHORT_FACET * 1_048_576
+        found = self.refused(front + SHORT_FACET, ["--box"])
         same(found, (status, f"stlslice: too many facets at byte {len(front)}\n"), "too many facets")
         same(lines, [found[1].strip()], "the page's line")
 
@@ -247,8 +238,8 @@ class Refused(Case):
         """By the page's command for several shells, on a part of two that overlap: 27 + 27 - 1 cubic centimetres."""
         self.room.put("part.stl", text(cube() + cube(20, 50)))
         env = self.room.with_env(PATH=f"{installed()}:{self.room.environment['PATH']}")
-        ran = self.room.bash(block_of("shells"), cwd=self.room.path, env=env)
-        same(ran, (0, "out.sl1: 50.000 x 50.000 x 50.000 mm, 53.000 ml, 1000 layers\n", ""), "two shells")
+        told = self.room.out("bash", "-c", block_of("shells"), cwd=self.room.path, env=env)
+        same(told, "out.sl1: 50.000 x 50.000 x 50.000 mm, 53.000 ml, 1000 layers\n", "two shells")
 
     def test_a_mesh_is_made_coarser(self):
         """By the page's command, on a ball and by a smaller number: it stays closed, and its volume nearly the same."""
@@ -257,15 +248,12 @@ class Refused(Case):
             skip("open3d is missing (Debian: python3-open3d)")
         same(block_of("coarser").count("(1000000)"), 1, "the number of the page")
         room.put("part.stl", written(ball(15, 5)))
-        ran = room.bash(block_of("coarser").replace("(1000000)", "(4000)"), cwd=room.path)
-        same(ran.status, 0, f"status ({ran.fault})")
+        room.done("bash", "-c", block_of("coarser").replace("(1000000)", "(4000)"), cwd=room.path)
         same(len(room.get("mended.stl")), 84 + 50 * 4000, "bytes of 4,000 facets")
         volumes = []
         for name in ("part.stl", "mended.stl"):
             words = ["--printer", "SL1S", "--layer", "500", room.file(name), room.file(name + ".sl1")]
-            ran = room.run(installed("stlslice-sl1"), *words)
-            same(ran.status, 0, f"status of {name} ({ran.fault})")
-            volumes.append(float(re.search(r", ([\d.]+) ml,", ran.out)[1]))
+            volumes.append(float(re.search(r", ([\d.]+) ml,", room.done(installed("stlslice-sl1"), *words).out)[1]))
         assert abs(volumes[0] - volumes[1]) < 0.01 * volumes[0], f"volumes {volumes}"
 
     def test_faults_of_grid_memory_and_devices(self):
@@ -377,8 +365,7 @@ class Refused(Case):
             same(total, whole.replace(",", ""), f"{part}: before")
             assert self.refused(bad)[0] in (3, 4), f"{part}: not refused"
             room.put("part.stl", bad)
-            ran = room.run(*repair.split(), "--write-ascii-stl=mended.stl", "part.stl", cwd=room.path)
-            same(ran.status, 0, f"{part}: status of {repair}")
+            room.done(*repair.split(), "--write-ascii-stl=mended.stl", "part.stl", cwd=room.path)
             total = room.out("stlslice", *REPORT, path=room.file("mended.stl")).split()[-1]
             same(total, made.replace(",", ""), f"{part}: after {repair}")
         for more in ("--exact", "--nearby --tolerance=0.01"):

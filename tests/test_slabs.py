@@ -10,16 +10,14 @@ import subprocess
 import time
 import unittest
 
-from as_installed import SLABS, slicer
-from common import PROGRAM, ROOT, Case, add_batch_system, alone, bytes_of, example, has_ended, needs, same, skip, waited
+from as_installed import OPEN, OPEN_LINE, SLABS, keeps_the_part, slicer
+from common import (BRACKET, PROGRAM, ROOT, Case, add_batch_system, alone, bytes_of, example, has_ended, needs, same, skip,
+                    waited)
 from parts import box, text
 
 BATCH = example("slabs.sbatch")
-BRACKET = example("bracket.stl")
 COARSE = ["--pitch", "200", "--layer", "300"]
 SHORT = ["-p", "200", "-l", "300"]
-OPEN = text(box((0, 0, 0), (1, 1, 1))[1:])
-OPEN_LINE = "stlslice: open edge 0 0 0 to 0 1000 0 there 0 back 1"
 
 
 class Slabs(Case):
@@ -97,20 +95,14 @@ class Words(Slabs):
             room.refused(3, line.format(free, name), SLABS, name, "x", cwd=room.path)
 
     def test_the_part_is_not_overwritten(self):
-        part, link = self.room.put("part.stl", bytes_of(BRACKET)), self.room.file("link.stl")
-        os.link(part, link)
-        for out in (part, link):
-            self.room.refused(1, f"%s: {out} is the part itself", SLABS, part, out)
-        assert self.room.get("part.stl") == bytes_of(BRACKET), "the part has changed"
+        keeps_the_part(self.room, [SLABS])
 
     def few_tools(self, *others):
         """An environment whose PATH has only what the command takes before GNU parallel, and stand-ins for other tools."""
-        os.makedirs(self.room.file("few"))
-        for tool in ("cat", "dirname", "od", "realpath", "wc"):
-            os.symlink(shutil.which(tool), self.room.file("few", tool))
+        path = self.room.tools("cat", "dirname", "od", "realpath", "wc")
         for tool in others:
-            os.symlink(shutil.which("true"), self.room.file("few", tool))
-        return {"PATH": self.room.file("few")}
+            os.symlink(shutil.which("true"), os.path.join(path, tool))
+        return {"PATH": path}
 
     def test_missing_tools_are_told(self):
         env, path, here = self.few_tools(), alone("stlslice-slabs", self.room), self.room.path

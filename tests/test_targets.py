@@ -6,12 +6,12 @@ import importlib.machinery
 import importlib.util
 import os
 import re
-import shutil
 import sys
 import zipfile
 from concurrent.futures import ThreadPoolExecutor
 
-from common import PROGRAM, ROOT, Case, Together, bytes_of, example, library, needs, same, skip, text_of, version
+from common import (BRACKET, GEAR, PROGRAM, ROOT, Case, Room, Together, bytes_of, example, library, needs, same, skip, text_of,
+                    version)
 
 MODULE = "build/made/module.bc"
 PYTHON = os.path.join(os.environ.get("XDG_CACHE_HOME") or os.path.expanduser("~/.cache"), "stlslice", "python-arm64")
@@ -39,7 +39,7 @@ def two_at_a_time(call, *lists):
 def parts(room):
     for name in ("bracket", "calibration_block", "helical_gear", "supported"):
         yield example(f"{name}.stl"), library_test.words_for(500, 500, 2)
-    yield example("helical_gear.stl"), [*library_test.words_for(12700, 12700, 0), "--unit", "inch"]
+    yield GEAR, [*library_test.words_for(12700, 12700, 0), "--unit", "inch"]
     for seed in range(PARTS):
         text, step, layer, rule = library_test.random_mesh(seed)
         yield room.put(f"random{seed}.stl", text), library_test.words_for(step, layer, rule)
@@ -47,7 +47,7 @@ def parts(room):
 
 def refused(room):
     """Each text that the program refuses as a file, with the program's words."""
-    for number, (text, words) in enumerate(library_test.faulty(bytes_of(example("bracket.stl")))):
+    for number, (text, words) in enumerate(library_test.faulty(bytes_of(BRACKET))):
         yield room.put(f"refused{number}.stl", text), words
 
 
@@ -63,15 +63,14 @@ class Tried:
         if not os.path.exists(os.path.join(ROOT, MODULE)):
             skip(f"{MODULE} isn't there (make library)")
         cls.folder = room.file("library")
-        ran = room.run("library/build", cls.TARGET, MODULE, cls.folder, version(), "/usr/local")
-        same(ran, (0, "", ""), f"library/build {cls.TARGET}")
+        told = room.out("library/build", cls.TARGET, MODULE, cls.folder, version(), "/usr/local")
+        same(told, "", "what library/build says")
         cls.files = sorted(os.listdir(cls.folder))
 
     def compiled(self, cc, name, place, *words):
         """A program of library/tests, compiled with all warnings."""
-        ran = self.room.run(*cc, "-std=c11", "-Wstrict-prototypes", *library_test.WARN, "-Iinclude",
-                            f"library/tests/{name}.c", *words, "-o", place)
-        same(ran, (0, "", ""), f"compiling {name}.c")
+        same(self.room.out(*cc, "-std=c11", "-Wstrict-prototypes", *library_test.WARN, "-Iinclude",
+                           f"library/tests/{name}.c", *words, "-o", place), "", f"what the compiler says of {name}.c")
         return place
 
     def static(self, name, *words):
@@ -82,14 +81,14 @@ class Tried:
         path, words = case
         return self.room.run(PROGRAM, *words, *more, path=path, text=False)
 
-    def by_target(self, *words):
-        return self.room.run(*self.RUN, *words, text=False)
+    def by_target(self, *words, run=Room.run):
+        return run(self.room, *self.RUN, *words, text=False)
 
     def wheel(self):
         shared = os.path.join(self.folder, self.SHARED)
-        ran = self.room.run(sys.executable, "python/wheel_of_library.py", version(), shared, self.room.path)
         path = self.room.file(f"stlslice-{version()}-py3-none-{self.TAG}.whl")
-        same(ran, (0, f"{path}\n", ""), "what wheel_of_library.py says")
+        told = self.room.out(sys.executable, "python/wheel_of_library.py", version(), shared, self.room.path)
+        same(told, f"{path}\n", "what wheel_of_library.py says")
         with zipfile.ZipFile(path) as wheel:
             wheel.extractall(self.room.file("installed"))
 
@@ -101,15 +100,13 @@ class Tried:
         same(needed, self.NEEDED, "libraries that it needs")
 
     def test_each_call_answers_and_each_failed_allocation_is_told(self):
-        ran = self.by_target(self.static("calls", library_test.FAILING), version(), library_test.step_text())
-        same(ran.status, 0, f"status of calls.c, which says {ran.fault}")
+        ran = self.by_target(self.static("calls", library_test.FAILING), version(), library_test.step_text(), run=Room.done)
         assert re.fullmatch(rb"\d+ tests of the calls\n", ran.out), ran.out
 
     def test_hostile_arguments_are_refused_and_no_memory_is_told(self):
         line = library_test.memory_line(PROGRAM)[len("stlslice: "):-1]
-        ran = self.by_target(self.static("hostile", library_test.FAILING), example("bracket.stl"), line)
-        same((ran.status, ran.fault), (0, ""), "status of hostile.c, and what it says")
-        assert int(ran.out.split()[0]) > 100, ran.out
+        told = self.by_target(self.static("hostile", library_test.FAILING), BRACKET, line, run=Room.out)
+        assert int(told.split()[0]) > 100, told
 
     def test_layers_stripes_and_arrays_have_the_program_s_bytes_and_faults_its_lines(self):
         layers, cases = self.static("layers"), [*parts(self.room), *refused(self.room)]
@@ -179,11 +176,10 @@ class Arm(Tried, Together):
         self.wheel()
         lapack = ":".join(f"/usr/lib/aarch64-linux-gnu/{it}" for it in ("blas", "lapack"))
         within = f"PYTHONPATH={self.room.file('installed')},LD_LIBRARY_PATH={lapack}"
-        ran = self.room.run("qemu-aarch64", "-L", PYTHON, f"{PYTHON}/usr/bin/python3", "library/tests/meshes.py",
-                            self.room.put("list", "".join(self.listed())), version(),
-                            env=self.room.with_env(QEMU_SET_ENV=within))
-        same((ran.status, ran.fault), (0, ""), "status of meshes.py, and what it says")
-        assert ran.out.startswith("Python: 3 meshes as bytes, PNGs and arrays"), ran.out
+        told = self.room.out("qemu-aarch64", "-L", PYTHON, f"{PYTHON}/usr/bin/python3", "library/tests/meshes.py",
+                             self.room.put("list", "".join(self.listed())), version(),
+                             env=self.room.with_env(QEMU_SET_ENV=within))
+        assert told.startswith("Python: 3 meshes as bytes, PNGs and arrays"), told
 
 
 @needs("cc", "rt", "x86_64-w64-mingw32-gcc", "wine")
@@ -214,11 +210,9 @@ class Beside(Case):
 
     @needs("rt")
     def test_a_missing_compiler_is_named_with_its_package(self):
-        for name in "bash basename cat dirname echo grep ln ls mktemp python3 realpath rm rt sed".split():
-            os.symlink(shutil.which(name), self.room.file(name))
+        tools = self.room.tools(*"bash basename cat dirname echo grep ln ls mktemp python3 realpath rm rt sed".split())
         for target, packages in (("aarch64-linux", "gcc-aarch64-linux-gnu, libc6-dev-arm64-cross"),
                                  ("x86_64-windows", "gcc-mingw-w64-x86-64")):
-            ran = self.room.run("library/build", target, "README.md", self.room.file("made"), version(), "/usr/local",
-                                env=self.room.with_env(PATH=self.room.path))
-            same(ran, (1, "", f"library/build: the C compiler for {target} is missing (Debian: {packages})\n"), target)
-        assert not os.path.exists(self.room.file("made")), "a folder was made"
+            line = f"library/build: the C compiler for {target} is missing (Debian: {packages})"
+            self.room.refused(1, line, "library/build", target, "README.md", self.room.file("made"), version(), "/usr/local",
+                              env=self.room.with_env(PATH=tools))

@@ -41,5 +41,5 @@ class Web(Case):
         if missing:
             self.leave_out(missing[1])
         if os.path.exists(os.path.join(folder, os.pardir, "web", "stlslice32.wasm")):
-            ran = self.room.run(sys.executable, "bench/page.py", PAGE, folder, "1000")
-            same((ran.status, ran.fault, len(ran.out.splitlines())), (0, "", 2), "status and lines of bench/page.py")
+            told = self.room.out(sys.executable, "bench/page.py", PAGE, folder, "1000")
+            same(len(told.splitlines()), 2, "lines of bench/page.py")

@@ -10,10 +10,9 @@ import os
 import re
 import sys
 
-from common import ROOT, Together, bytes_of, example, library, python_with, same, skip, text_of, version
+from common import GEAR, ROOT, Together, bytes_of, library, python_with, same, skip, text_of, version
 from parts import zipped
 
-GEAR = example("helical_gear.stl")
 USE = """
 import hashlib, os, sys, stlslice
 assert os.path.realpath(stlslice.__file__).startswith(os.path.realpath(sys.prefix)), stlslice.__file__
@@ -28,10 +27,8 @@ except stlslice.Fault as fault:
 
 def made(room, name):
     os.mkdir(room.file(name))
-    ran = room.run(sys.executable, "python/wheel_of_library.py", version(), library(), room.file(name))
-    wheel = ran.out.rstrip("\n")
-    same((ran.status, ran.fault, os.listdir(room.file(name))), (0, "", [os.path.basename(wheel)]),
-         "status of wheel_of_library.py")
+    wheel = room.out(sys.executable, "python/wheel_of_library.py", version(), library(), room.file(name)).rstrip("\n")
+    same(os.listdir(room.file(name)), [os.path.basename(wheel)], "what wheel_of_library.py made")
     return wheel
 
 
@@ -94,11 +91,11 @@ class Wheel(Together):
         part = self.room.put("part.stl", bytes_of("examples/bracket.stl"))
         shown = ("print(mask.shape, mask.dtype, int(mask.sum()) == area > 0, image[:11], len(image), "
                  "[len(it) > 2 for it in loops])")
-        ran = self.room.run(self.python, "-c", readme + shown, cwd=self.room.path)
+        told = self.room.out(self.python, "-c", readme + shown, cwd=self.room.path)
         report = self.room.run("stlslice", *"--pitch 50 --layer 50 --rule positive --report".split(), path=part).out
         count = int(re.search(r"(?m)^layer 120 loops (\d+) ", report)[1])
         wanted = f"(240, 640) bool True b'P4\\n640 240\\n' {11 + 80 * 240} {[True] * count}\n"
-        same(ran, (0, wanted, ""), "README's lines")
+        same(told, wanted, "README's lines")
         preview = re.search(r"(?ms)^## A preview in Python\n.*?^```python\n(.*?)^```$", text_of("docs/embedding.md"))[1]
         picture = self.room.out(self.python, "-c", preview, path=GEAR, text=False)
         same((picture[:15], len(picture)), (b"P5\n300 300\n255\n", 15 + 90000), "a picture of 300 by 300 pixels")

@@ -2,7 +2,8 @@
 """Reads what `rt ci` or `rt must-fail` says of the edits. It fails if something else refuses one than a clause or an invariant,
 and refused_otherwise.txt, beside it, does not say why.
 
-    rt must-fail | tools/refused.py [--list] [FILE..]     at the top; --list: of each edit the function, its name and the goal
+    rt must-fail | tools/refused.py [--list] [FILE..]     at the top; --list: of each edit the function that is not proved, the
+                                                          edit's name and the goal, and whether the name is another function's
 """
 import fileinput
 import re
@@ -33,6 +34,7 @@ for crate, edit, is_refused, said in told:
         failed.append(f"{crate}/{edit}: {said}")
     if "--list" in sys.argv:
         place = answer[1].replace("/", "::") if answer else function_at(f"crates/{crate}/{code[1]}", int(code[2])) if code else "?"
-        print(f"{crate}::{place}  {edit}  {goal}")
+        other = "" if edit.split(".")[-2] == place.split("::")[-1] else "  (of another function)"
+        print(f"{crate}::{place}  {edit}  {goal}{other}")
 print(*failed, f"edits refused by a clause or an invariant, or listed: {len(told) - len(failed)}; not: {len(failed)}", sep="\n")
 sys.exit(bool(failed or not told))

@@ -53,7 +53,7 @@ def fill(page, fields):
 def command(program, name, part, output, words):
     words = [sys.executable, os.path.join(ROOT, "commands", name), "--program", program, "--workers", "4", *words, part, output]
     ran = subprocess.run(words, env={**os.environ, "SOURCE_DATE_EPOCH": str(MOMENT)}, capture_output=True, text=True)
-    same(f"status of {words}: {ran.stderr}", ran.returncode, 0)
+    same(ran.returncode, 0, f"status of {words}: {ran.stderr}")
 
 
 def words_of(fields):
@@ -65,11 +65,11 @@ def head_of(entry):
             entry.flag_bits, entry.compress_type, entry.CRC, entry.file_size)
 
 
-def same_archive(what, found, wanted):
+def same_archive(found, wanted, what):
     with zipfile.ZipFile(found) as mine, zipfile.ZipFile(wanted) as theirs:
-        same(f"heads of {what}", [head_of(it) for it in mine.infolist()], [head_of(it) for it in theirs.infolist()])
+        same([head_of(it) for it in mine.infolist()], [head_of(it) for it in theirs.infolist()], f"heads of {what}")
         for name in theirs.namelist():
-            same(f"{name} of {what}", mine.read(name), theirs.read(name))
+            same(mine.read(name), theirs.read(name), f"{name} of {what}")
         return len(theirs.namelist())
 
 
@@ -90,7 +90,7 @@ def try_archives(page, room, program, every):
         wanted = os.path.join(room, name)
         rule = ["--rule", "positive"] if "--rule" not in words else []
         command(program, "stlslice-sl1", part, wanted, [*words_of(fields), *words, *rule])
-        entries += same_archive(f"{name} {fields}", page.saved(name, "save_archive"), wanted)
+        entries += same_archive(page.saved(name, "save_archive"), wanted, f"{name} {fields}")
         os.remove(wanted)
     return f"{len(every)} archives with {entries} entries, each as stlslice-sl1 writes it"
 
@@ -102,10 +102,10 @@ def try_pngs(page, room, program):
     folder = os.path.join(room, "pngs")
     command(program, "stlslice-pngs", example("bracket"), folder, words_of(fields))
     with zipfile.ZipFile(page.saved("bracket_pngs.zip", "save_pngs")) as found:
-        same("the names of PNGs", found.namelist(), sorted(os.listdir(folder)))
+        same(found.namelist(), sorted(os.listdir(folder)), "the names of PNGs")
         for name in found.namelist():
             with open(os.path.join(folder, name), "rb") as file:
-                same(name, found.read(name), file.read())
+                same(found.read(name), file.read(), name)
     shutil.rmtree(folder)
 
 
@@ -120,7 +120,7 @@ def try_stop(page):
         holds("layers are shown meanwhile", page.value("by('layer').value = 7; show().then(() => shown.k)") == 7)
         page.value(f"{ending}; 0")
         page.until(f"!save_all.is_running() && {IDLE}")
-        same("what was saved", os.listdir(page.browser.saved), [])
+        same(os.listdir(page.browser.saved), [], "what was saved")
         holds("the part is still there", page.value("opened !== null && by('fault').hidden"))
 
 
@@ -152,7 +152,7 @@ def try_numbers(page):
     for at in range(0, len(every), 20000):
         some = every[at:at + 20000]
         found = page.in_worker(f"{json.dumps(some)}.map((it) => [general(it), general(it, 10), fixed(it)].join(' ')).join()")
-        same("numbers", found.split(","), [f"{it:g} {it:.10g} {it:.6f}" for it in some])
+        same(found.split(","), [f"{it:g} {it:.10g} {it:.6f}" for it in some], "numbers")
 
 
 def try_settings(page):
@@ -182,13 +182,13 @@ def try_settings(page):
                       "layers": layers, "lit": lit, "slow": slow, "now": MOMENT})
     told = page.in_worker(f"{json.dumps(every)}.map((it) => [settings({{ ...it, job: job_of('out of \u00e9.SL1') }}), profile(it.given)])")
     for one, other in zip(told, wanted):
-        same("settings", one, other)
+        same(one, other, "settings")
 
 
 def decimal(length):
     """A length as its exact decimal."""
     digits = f"{int(length * 10 ** 6):07}"
-    same("the length", Fraction(int(digits), 10 ** 6), length)
+    same(Fraction(int(digits), 10 ** 6), length, "the length")
     return f"{digits[:-6]}.{digits[-6:]}".rstrip("0").rstrip(".")
 
 

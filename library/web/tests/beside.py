@@ -37,6 +37,6 @@ def try_changed_toolchains(room):
         put(f"{kit}/toolchain/bin/clang", "exit 0")
         status, _, wrong = library_test.ran([os.path.join(ROOT, "library", "proved.py"), f"{kit}/lib.a", f"{kit}/module.bc"],
                                             env={**os.environ, "PATH": f"{kit}/bin:{os.environ['PATH']}"})
-        same(f"status in a changed toolchain: {wrong}", status, 1)
+        same(status, 1, f"status in a changed toolchain: {wrong}")
         holds(f"{wrong!r} says {wanted!r}", wanted in wrong)
         holds("there is no module", not os.path.exists(f"{kit}/module.bc"))

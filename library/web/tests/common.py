@@ -22,7 +22,7 @@ def stop(why):
     sys.exit(f"library/web/test: {why}")
 
 
-def same(what, found, wanted):
+def same(found, wanted, what):
     if found != wanted:
         stop(f"{what}: found {str(found)[:600]!r} and wanted {str(wanted)[:600]!r}")
 
@@ -149,7 +149,7 @@ def images_of(program, part, *words):
     """The bits of the program's images, and their columns and rows."""
     with open(part, "rb") as text:
         status, stream, wrong = library_test.ran([program, *words], stdin=text)
-    same(f"the program's status of {part}: {wrong}", status, 0)
+    same(status, 0, f"the program's status of {part}: {wrong}")
     columns, rows = map(int, stream.split(b"\n", 2)[1].split())
     head = len(f"P4\n{columns} {rows}\n")
     size = head + (columns + 7) // 8 * rows

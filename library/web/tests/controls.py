@@ -19,17 +19,17 @@ def try_keys(page):
     page.take(example("bracket"))
     layers = page.value("opened.layers")
     at = layers // 2
-    same("the layer that comes first", page.k(), at)
+    same(page.k(), at, "the layer that comes first")
     page.value("document.activeElement.blur()")
     for key, wanted in [("ArrowRight", at + 1), ("ArrowUp", at + 2), ("ArrowLeft", at + 1), ("ArrowDown", at),
                         ("PageUp", at + 10), ("PageDown", at), ("End", layers - 1), ("ArrowRight", layers - 1), ("Home", 0),
                         ("ArrowLeft", 0)]:
         page.browser.key(key)
-        same(f"layer after {key}", page.k(), wanted)
+        same(page.k(), wanted, f"layer after {key}")
     for name, wanted in (("layer", 1), ("pitch", 1)):
         page.value(f"by('{name}').focus()")
         page.browser.key("ArrowRight")
-        same(f"layer after a key in the field {name}", page.k(), wanted)
+        same(page.k(), wanted, f"layer after a key in the field {name}")
     page.value("document.activeElement.blur()")
     try_mouse(page, layers)
     try_zoom(page)
@@ -40,9 +40,9 @@ def try_mouse(page, layers):
         x, y = page.middle(selector)
         before = page.k()
         page.browser.mouse("mouseWheel", x, y, deltaX=0, deltaY=-100)
-        same(f"layer after the wheel on {selector}", page.k(), before + 1)
+        same(page.k(), before + 1, f"layer after the wheel on {selector}")
         page.browser.mouse("mouseWheel", x, y, deltaX=0, deltaY=100)
-        same(f"layer after the wheel back on {selector}", page.k(), before)
+        same(page.k(), before, f"layer after the wheel back on {selector}")
     left, top, width, height = page.browser.place("#plot")
     for part in (0.25, 0.75):
         page.browser.click(left + width * part, top + height / 2)
@@ -61,14 +61,14 @@ def try_zoom(page):
     page.browser.mouse("mouseMoved", x + 30, y - 20, button="left", buttons=1)
     page.browser.mouse("mouseReleased", x + 30, y - 20, button="left")
     moved = [round(now - then, 6) for now, then in zip(page.value("[look.x, look.y]"), before)]
-    same("how far dragging moved the image", moved, [30, -20])
+    same(moved, [30, -20], "how far dragging moved the image")
     page.browser.key("0", "Digit0", "0")
-    same("the zoom after 0", page.value("look"), {"zoom": 1, "x": 0, "y": 0})
+    same(page.value("look"), {"zoom": 1, "x": 0, "y": 0}, "the zoom after 0")
     page.browser.key("o", "KeyO", "o")
-    same("outlines after o", page.value("by('outlines').checked"), False)
+    same(page.value("by('outlines').checked"), False, "outlines after o")
     before = page.value("by('keys').open")
     page.browser.key("?", "Slash", "?")
-    same("the keys after ?", page.value("by('keys').open"), not before)
+    same(page.value("by('keys').open"), not before, "the keys after ?")
 
 
 # Whether the canvas shows each pixel of the image, one after the other
@@ -88,16 +88,16 @@ def try_told(page, program):
     """The line above the image reports its layer; the picture on the canvas has the image's pixels."""
     images, columns, rows = images_of(program, example("bracket"), "--pitch", "100", "--layer", "100", "--rule", "positive")
     page.value("by('outlines').checked = false; go(37)")
-    same("layer", page.k(), 37)
+    same(page.k(), 37, "layer")
     page.value("draw()")
     area = area_of(images[37])
-    same("what is told of the layer", page.text("told").replace(",", ""),
-         f"Layer 37 of {len(images)} z 3.750 mm area {area / 100:.3f} mm² ({area} pixels) 1 loop")
+    told = page.text("told").replace(",", "")
+    same(told, f"Layer 37 of {len(images)} z 3.750 mm area {area / 100:.3f} mm² ({area} pixels) 1 loop", "what is told of the layer")
     page.until("areas.length === opened.layers")
     holds("the canvas shows each pixel at least once", page.value("framed().scale > 1"))
     stride = (columns + 7) // 8
     lines = (images[37][at:at + stride] for at in range(0, stride * rows, stride))
-    same("the pixels on the canvas", page.value(SHOWN), "".join("".join(f"{byte:08b}" for byte in it)[:columns] for it in lines))
+    same(page.value(SHOWN), "".join("".join(f"{byte:08b}" for byte in it)[:columns] for it in lines), "the pixels on the canvas")
     volume = sum(map(area_of, images)) * 100 ** 3 / 1e12
     holds("the volume", f"Volume{volume:.3f} ml" in page.text("facts"))
 
@@ -107,10 +107,10 @@ def try_drop(page):
     page.set(200, 200)
     page.browser.drop([example("supported")], *page.middle("#image"))
     page.until(IDLE)
-    same("the part that was dropped", page.text("name"), "supported.stl")
+    same(page.text("name"), "supported.stl", "the part that was dropped")
     page.browser.choose("#file", example("bracket"))
     page.until(f"part.name === 'bracket.stl' && {IDLE}")
-    same("the part after it", page.text("name"), "bracket.stl")
+    same(page.text("name"), "bracket.stl", "the part after it")
 
 
 def try_canvas(page, program):
@@ -126,13 +126,13 @@ def try_canvas(page, program):
     x, y, layers = (low_x + high_x - 51700) // 2, (low_y + high_y - 30300) // 2, -(-(high_z - low_z) // 100)
     grid = f"--grid=517,303,{layers},{x},{y},{low_z}"
     images, *_ = images_of(program, example("bracket"), "--pitch", "100", "--layer", "100", "--rule", "positive", grid)
-    same("the images on a canvas", base64.b64decode(page.in_worker(script("all_layers"))["images"]),
-         b"".join(b"P4\n517 303\n" + it for it in images))
+    same(base64.b64decode(page.in_worker(script("all_layers"))["images"]), b"".join(b"P4\n517 303\n" + it for it in images),
+         "the images on a canvas")
     try_mirrors(page, images[60], columns=517)
     page.change(rows=10)
     page.until("!by('fault').hidden")
-    same("the fault of a part that is too large", page.text("fault_line"),
-         "the part doesn't fit: it is 31.964 x 12.000 mm, the canvas 51.700 x 1.000 mm")
+    same(page.text("fault_line"), "the part doesn't fit: it is 31.964 x 12.000 mm, the canvas 51.700 x 1.000 mm",
+         "the fault of a part that is too large")
 
 
 def try_mirrors(page, image, columns):
@@ -140,11 +140,11 @@ def try_mirrors(page, image, columns):
     stride = (columns + 7) // 8
     rows = ["".join(f"{byte:08b}" for byte in image[at:at + stride])[:columns] for at in range(0, len(image), stride)]
     page.value("by('outlines').checked = false; go(60)")
-    same("layer", page.k(), 60)
+    same(page.k(), 60, "layer")
     for x, y in ((True, False), (False, True), (True, True), (False, False)):
         page.value(f"by('mirror_x').checked = {str(x).lower()}; by('mirror_y').checked = {str(y).lower()}; draw()")
         seen = [row[::-1] if x else row for row in (rows[::-1] if y else rows)]
-        same(f"the pixels with mirrors {x}, {y}", page.value(SHOWN), "".join(seen))
+        same(page.value(SHOWN), "".join(seen), f"the pixels with mirrors {x}, {y}")
 
 
 # Whether the canvas shows a pixel of the image as filled, when it is near and in the middle
@@ -167,7 +167,7 @@ def try_large_canvas(page, program):
     page.change(grid="canvas", columns=5000, rows=3000)
     page.until(f"{IDLE} && opened.columns === 5000")
     page.value("by('outlines').checked = false; go(3)")
-    same("layer", page.k(), 3)
+    same(page.k(), 3, "layer")
     holds("the picture is made smaller", page.value("shown.side > 1 && shown.bits.length > 0"))
     grid = "--grid=" + ",".join(map(str, page.value("opened.grid")))
     images, *_ = images_of(program, example("bracket"), "--pitch", "10", "--layer", "1000", "--rule", "positive", grid)
@@ -176,7 +176,7 @@ def try_large_canvas(page, program):
     ends = [at for at in range(1, 5000) if line[at] != line[at - 1]]
     holds("the row has both kinds of pixels", len(ends) >= 2)
     for column in [it for end in ends for it in (end - 1, end)]:
-        same(f"the pixel of column {column} near by", page.value(NEAR % (column, row)), line[column] == "1")
+        same(page.value(NEAR % (column, row)), line[column] == "1", f"the pixel of column {column} near by")
 
 
 def at_openings(page, *scripts):
@@ -198,11 +198,11 @@ def try_wrong_fields(page):
     page.change(grid="canvas", columns="")
     page.change(grid="fitted", height=200)
     page.until(f"{IDLE} && opened.options.layer === 200")
-    same("what a browser restores of the form", page.value("by('form').autocomplete"), "off")
+    same(page.value("by('form').autocomplete"), "off", "what a browser restores of the form")
     at_openings(page, f"by('pitch').value = ''; {CHANGED}")
     page.change(height=300)
     page.until("!slice.is_running()")
-    same("the mesh, and the fault of a field that is cleared", page.value("[opened?.options.layer, by('fault').hidden]"), [300, True])
+    same(page.value("[opened?.options.layer, by('fault').hidden]"), [300, True], "the mesh, and the fault of a field that is cleared")
     page.change(pitch=50)
     page.until(f"{IDLE} && opened.options.pitch === 50")
 
@@ -211,7 +211,7 @@ def try_hints(page, room):
     """With a fault shown the keys scroll its hints."""
     page.load(PHONE)
     page.take(broken(room))
-    same("whether Tab comes to the hints", page.value("by('fault').tabIndex"), 0)
+    same(page.value("by('fault').tabIndex"), 0, "whether Tab comes to the hints")
     page.value("by('hints').querySelectorAll('details').forEach((it) => { it.open = true; })")
     for key, code in (("ArrowDown", 40), ("PageDown", 34), ("End", 35)):
         page.value("by('fault').scrollTop = 0")
@@ -219,8 +219,8 @@ def try_hints(page, room):
         page.browser.ask("Input.dispatchKeyEvent", type="rawKeyDown", key=key, code=key, windowsVirtualKeyCode=code)
         page.until("by('fault').scrollTop > 0")
         page.browser.ask("Input.dispatchKeyEvent", type="keyUp", key=key, code=key, windowsVirtualKeyCode=code)
-    same("what the page's parts are", page.value("['image', 'plot', 'busy_words', 'fault'].map((id) => by(id).role)"),
-         ["img", "img", "status", "alert"])
+    same(page.value("['image', 'plot', 'busy_words', 'fault'].map((id) => by(id).role)"), ["img", "img", "status", "alert"],
+         "what the page's parts are")
 
 
 def try_saving(page, program):
@@ -229,13 +229,13 @@ def try_saving(page, program):
     page.set(100, 100)
     page.take(example("bracket"))
     page.value("go(20)")
-    same("layer", page.k(), 20)
+    same(page.k(), 20, "layer")
     page.value("document.activeElement.blur()")
     page.browser.key("s", "KeyS", "s")
     same_png(page, program, 20, 100)
     # layer 31 of the mesh before is as high as layers 15 and 7 of these
     page.value("go(31)")
-    same("layer", page.k(), 31)
+    same(page.k(), 31, "layer")
     at_openings(page, f"by('height').value = 400; {CHANGED}; queueMicrotask(save)", "save()")
     page.change(height=200)
     same_png(page, program, 15, 200)
@@ -253,7 +253,7 @@ def same_png(page, program, k, layer):
     with open(path, "rb") as file, open(example("bracket"), "rb") as part:
         words = [program, "--pitch", "100", "--layer", str(layer), "--rule", "positive", "--png", "--depth", "1"]
         pngs = subprocess.run(words, stdin=part, stdout=subprocess.PIPE, check=True).stdout.split(SIGNATURE)
-        same(f"the saved PNG of layer {k}", file.read(), SIGNATURE + pngs[k + 1])
+        same(file.read(), SIGNATURE + pngs[k + 1], f"the saved PNG of layer {k}")
 
 
 def try_demos(page):

@@ -63,9 +63,9 @@ def try_binary(page, room, program):
     text = text_of(facets)
     box = written(program, text, "--box")
     holds("the box would be another with all digits", written(program, text_of(facets, repr), "--box") != box)
-    same("the box of a binary file", page.value("[...opened.low, ...opened.high]"), list(map(int, box.split()[3:])))
-    same("images of a binary file", base64.b64decode(page.in_worker(script("all_layers"))["images"]),
-         written(program, text, "--pitch", "50", "--layer", "100", "--rule", "positive"))
+    same(page.value("[...opened.low, ...opened.high]"), list(map(int, box.split()[3:])), "the box of a binary file")
+    same(base64.b64decode(page.in_worker(script("all_layers"))["images"]),
+         written(program, text, "--pitch", "50", "--layer", "100", "--rule", "positive"), "images of a binary file")
     holds("the page says that the file is binary", "from a binary file" in page.text("facts"))
     with open(binary, "r+b") as file:
         file.seek(84 + 50 * 6 + 12)
@@ -131,11 +131,11 @@ def try_kinds(page, room):
         page.take(path)
         title, words = KINDS[name]
         holds(f"the line of {name}: {page.text('fault_line')}", page.text("fault_line").startswith("expected solid at byte "))
-        same(f"the first hint of {name}", page.value("by('hints').querySelector('summary').textContent"), title)
+        same(page.value("by('hints').querySelector('summary').textContent"), title, f"the first hint of {name}")
         told = page.value("by('hints').querySelector('details').textContent")
         holds(f"{told!r} says {words!r}", words in told)
         if title.endswith(", and no STL") and name not in ("-part.gcode", "part.html", "part.png"):
-            same(f"the systems that {told!r} names", [it in told for it in ("Windows", "macOS", "Linux")], 3 * [True])
+            same([it in told for it in ("Windows", "macOS", "Linux")], 3 * [True], f"the systems that {told!r} names")
 
 
 def try_first_hints(page, room):
@@ -158,7 +158,7 @@ def try_first_hints(page, room):
               page.value("by('hints').querySelector('summary').textContent").startswith(title))
     titles = page.value("[...TELLING.map(([, it]) => it), ...Object.values(OF_KINDS), 'The file was cut']")
     known = page.value("data.hints.map((it) => it.title)")
-    same("hints that are named but not there", [it for it in titles if it not in known], [])
+    same([it for it in titles if it not in known], [], "hints that are named but not there")
 
 
 def try_several(page):
@@ -166,10 +166,10 @@ def try_several(page):
     page.load()
     page.browser.drop([os.path.join(ROOT, "README.md"), example("supported"), example("bracket")], *page.middle("#image"))
     page.until(IDLE)
-    same("the part that is shown", page.text("name"), "supported.stl")
+    same(page.text("name"), "supported.stl", "the part that is shown")
     holds(page.text("warnings"), "3 files were dropped: this is supported.stl. Left out: README.md, bracket.stl" in page.text("warnings"))
     page.take(example("bracket"))
-    same("what is said of one file", page.text("warnings"), "")
+    same(page.text("warnings"), "", "what is said of one file")
 
 
 def try_units(page, room, program):
@@ -183,7 +183,7 @@ def try_units(page, room, program):
         page.until("areas.length === opened.layers")
         times = re.sub(rb"(?<=\s)(-?\d+\.?\d*)e?([-+]\d+)?(?=\s)", lambda it: b"%se%d" % (it[1], int(it[2] or 0) + power), text)
         wanted = written(program, times, "--pitch", str(pitch), "--layer", str(pitch), "--rule", "positive")
-        same(f"images in unit {unit}", base64.b64decode(page.in_worker(script("all_layers"))["images"]), wanted)
+        same(base64.b64decode(page.in_worker(script("all_layers"))["images"]), wanted, f"images in unit {unit}")
     holds(page.text("warnings"), "is m the unit of its numbers?" in page.text("warnings"))
     path = os.path.join(room, "spoiled.stl")
     with open(path, "wb") as file:
@@ -191,7 +191,7 @@ def try_units(page, room, program):
     page.take(path)
     with open(path, "rb") as file:
         line = subprocess.run([program, "--box"], stdin=file, capture_output=True).stderr.decode()
-    same("the fault of a text in m", f"stlslice: {page.text('fault_line')}\n", line)
+    same(f"stlslice: {page.text('fault_line')}\n", line, "the fault of a text in m")
 
 
 def turned_out(text):
@@ -222,7 +222,7 @@ def try_inside_out(page, room, program):
             positive, nonzero = (f"{it * 200 ** 3 / 1e12:.3f}" for it in lit)
             holds(f"{told} {lit}", f"A shell is inside out somewhere: {positive} ml by positive, {nonzero} ml by nonzero" in told)
         else:
-            same("what is said of a part that is right", told, "")
+            same(told, "", "what is said of a part that is right")
 
 
 def try_all(page, room, program):

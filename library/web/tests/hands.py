@@ -29,7 +29,7 @@ def try_buttons(page):
     k = opened_bracket(page)
     for name, wanted in (("up", k + 1), ("up", k + 2), ("down", k + 1)):
         page.browser.click(*page.middle(f"#{name}"))
-        same(f"layer after the button {name}", page.k(), wanted)
+        same(page.k(), wanted, f"layer after the button {name}")
 
 
 def try_swipe(page):
@@ -45,10 +45,10 @@ def try_swipe(page):
     k = page.k()
     page.browser.swipe((x, y + 100), (x, y - 100))
     page.until("scrollY > 20")
-    same("the layer after a swipe upwards", page.k(), k)
+    same(page.k(), k, "the layer after a swipe upwards")
     page.value("scrollTo(0, 0); zoom(4)")
     page.browser.swipe((x - 60, y), (x + 60, y))
-    same("the layer after a swipe over a zoomed picture", page.k(), k)
+    same(page.k(), k, "the layer after a swipe over a zoomed picture")
     holds("which has moved it", page.value("look.x > 20"))
     page.browser.ask("Emulation.setTouchEmulationEnabled", enabled=False)
 
@@ -67,13 +67,13 @@ def try_scrolling(page):
         page.value("scrollTo(0, 0)")
         page.browser.key("PageDown")
         page.until("scrollY > 0")
-        same("the layer after scrolling", page.k(), k)
+        same(page.k(), k, "the layer after scrolling")
         page.value("scrollTo(0, 0)")
         page.browser.click(*page.middle("#image"))
         page.browser.mouse("mouseWheel", x, y, deltaX=0, deltaY=-100)
-        same("the layer after the wheel over a picture in use", page.k(), k + 1)
+        same(page.k(), k + 1, "the layer after the wheel over a picture in use")
         page.browser.key("PageDown")
-        same("the layer after a key", page.k(), k - 9)
+        same(page.k(), k - 9, "the layer after a key")
         page.value("go(0)")
         page.k()
         page.browser.mouse("mouseWheel", x, y, deltaX=0, deltaY=60)
@@ -84,17 +84,17 @@ def try_keyboard(page):
     """With the keyboard alone: choose, slice, look, save. The file's window is the browser's own, so the file is handed in."""
     page.load()
     page.browser.key("Tab")
-    same("what the first Tab comes to", page.value("document.activeElement.id"), "file")
+    same(page.value("document.activeElement.id"), "file", "what the first Tab comes to")
     page.take(example("bracket"))
     k = page.k()
-    same("where the keys go on", page.value("document.activeElement.id"), "image")
+    same(page.value("document.activeElement.id"), "image", "where the keys go on")
     page.browser.key("ArrowUp")
-    same("the layer", page.k(), k + 1)
+    same(page.k(), k + 1, "the layer")
     for _ in range(3):
         page.browser.key("+", "Equal", "+")
     for key, wanted in (("ArrowRight", [-60, 0]), ("ArrowDown", [-60, -60]), ("ArrowLeft", [0, -60]), ("ArrowUp", [0, 0])):
         page.browser.key(key, modifiers=SHIFT)
-        same(f"where the picture is after {key}", page.value("[look.x, look.y]"), wanted)
+        same(page.value("[look.x, look.y]"), wanted, f"where the picture is after {key}")
     for _ in range(60):
         page.browser.key("ArrowRight", modifiers=SHIFT)
     holds("the picture is not lost", page.value("look.x + framed().scale * opened.columns / 2 > -by('image').clientWidth / 2"))
@@ -108,7 +108,7 @@ def try_keyboard(page):
         holds(f"{page.value('document.activeElement.id')} shows that it has the focus", outline)
     wanted = {"pitch", "height", "rule", "unit", "grid", "save_pngs", "copy", "file", "outlines", "nearer", "farther", "whole", "save",
               "down", "layer", "up"}
-    same("what Tab does not come to", wanted - seen, set())
+    same(wanted - seen, set(), "what Tab does not come to")
 
 
 def try_colours(page):
@@ -130,14 +130,14 @@ def try_colours(page):
             return [dot(at % columns, Math.floor(at / columns)), dot(empty % columns, Math.floor(empty / columns))];
         })()""".replace("bits_now()", json.dumps(page.in_worker("[...bits_of(shape.layers / 2 | 0)].flatMap((byte, at) => "
                         "Array.from({ length: Math.min(8, shape.columns - 8 * (at % row_bytes())) }, (_, bit) => byte >> 7 - bit & 1))"))))
-        same(f"the dots that are drawn: {scheme}", dots, page.value("[colour_of('body'), colour_of('ground')]"))
+        same(dots, page.value("[colour_of('body'), colour_of('ground')]"), f"the dots that are drawn: {scheme}")
     page.browser.media(prefers_color_scheme="light")
     page.until("getComputedStyle(document.body).backgroundColor === 'rgb(238, 241, 245)'")
     page.k()
     animation = "(by('busy').hidden = false, getComputedStyle(by('done')).animationName)"
-    same("the bar's motion", page.value(animation), "go")
+    same(page.value(animation), "go", "the bar's motion")
     page.browser.media(prefers_color_scheme="light", prefers_reduced_motion="reduce")
-    same("the bar's motion if less is wanted", page.value(animation), "none")
+    same(page.value(animation), "none", "the bar's motion if less is wanted")
     page.browser.media()
 
 
@@ -149,13 +149,14 @@ def try_kept(page):
     page.value("by('outlines').click()")
     page.load(is_kept=True)
     ids = ["pitch", "height", "grid", "columns", "rows", "exposure"]
-    same("what was kept", page.value(f"{json.dumps(ids)}.map((id) => by(id).value)"), ["40", "25", "canvas", "800", "600", "3.5"])
-    same("boxes that were kept", page.value("['mirror_x', 'mirror_y', 'outlines'].map((id) => by(id).checked)"), [False, True, False])
+    same(page.value(f"{json.dumps(ids)}.map((id) => by(id).value)"), ["40", "25", "canvas", "800", "600", "3.5"], "what was kept")
+    same(page.value("['mirror_x', 'mirror_y', 'outlines'].map((id) => by(id).checked)"), [False, True, False], "boxes that were kept")
     holds("the canvas is seen", page.value("!by('columns').disabled && by('columns').checkVisibility()"))
     for text in ('{"pitch": "-5", "height": "x", "rule": "9", "grid": 3}', "no JSON", "[]", "null"):
         page.value(f"localStorage.setItem('stlslice', {json.dumps(text)})")
         page.load(is_kept=True)
-        same(f"the form after {text}", page.value("['pitch', 'height', 'rule', 'grid'].map((id) => by(id).value)"), ["50", "50", "2", "fitted"])
+        same(page.value("['pitch', 'height', 'rule', 'grid'].map((id) => by(id).value)"), ["50", "50", "2", "fitted"],
+             f"the form after {text}")
     denied = "Object.defineProperty(window, 'localStorage', { get() { throw new Error('denied'); } })"
     number = page.browser.ask("Page.addScriptToEvaluateOnNewDocument", source=denied)["identifier"]
     page.load(is_kept=True)
@@ -163,7 +164,7 @@ def try_kept(page):
     page.set(500, 500)
     page.change(height=500)
     page.take(example("bracket"))
-    same("a page without storage", page.value("opened.layers"), 54)
+    same(page.value("opened.layers"), 54, "a page without storage")
 
 
 def try_command(page, program):
@@ -171,16 +172,17 @@ def try_command(page, program):
     opened_bracket(page)
     page.change(unit=1, height=500)
     page.until(f"{IDLE} && opened.options.unit === 1 && opened.options.layer === 500")
-    same("the command of a part", page.text("command").strip(), "stlslice --pitch 100 --layer 500 --rule positive --unit inch < bracket.stl")
+    same(page.text("command").strip(), "stlslice --pitch 100 --layer 500 --rule positive --unit inch < bracket.stl",
+         "the command of a part")
     names = {"a b's.stl": "'a b'\\''s.stl'", "-x.stl": "./-x.stl", "plain.stl": "plain.stl"}
-    same("names in a command", page.value(f"{json.dumps(list(names))}.map(named)"), list(names.values()))
-    same("words of a shell", [shlex.split(it)[0] for it in names.values()], ["a b's.stl", "./-x.stl", "plain.stl"])
+    same(page.value(f"{json.dumps(list(names))}.map(named)"), list(names.values()), "names in a command")
+    same([shlex.split(it)[0] for it in names.values()], ["a b's.stl", "./-x.stl", "plain.stl"], "words of a shell")
     page.change(unit=0, grid="canvas", columns=800, rows=600)
     page.until(f"{IDLE} && opened.columns === 800")
     page.value("by('mirror_x').checked = true; by('material').value = 'a b'; by('archive').dispatchEvent(new Event('change'))")
-    same("the command of a canvas", page.text("command").strip(), "stlslice-sl1 --pitch 100 --layer 500 --rule positive --canvas 800x600 "
-         "--mirror-x --material 'a b' bracket.stl bracket.sl1")
-    same("the program's own word for a grid is not needed", "--grid" in page.text("command"), False)
+    same(page.text("command").strip(), "stlslice-sl1 --pitch 100 --layer 500 --rule positive --canvas 800x600 "
+         "--mirror-x --material 'a b' bracket.stl bracket.sl1", "the command of a canvas")
+    same("--grid" in page.text("command"), False, "the program's own word for a grid is not needed")
     try_copy(page)
 
 
@@ -189,10 +191,10 @@ def try_copy(page):
     page.value("Object.defineProperty(navigator, 'clipboard', { value: { writeText: async (it) => { globalThis.clip = it; } } }); 0")
     page.value("by('copy').click()")
     page.until("by('copied').textContent === 'copied'")
-    same("what was copied", page.value("clip"), page.text("command").strip())
+    same(page.value("clip"), page.text("command").strip(), "what was copied")
     page.value("navigator.clipboard.writeText = async () => { throw new Error('denied'); }; by('copy').click()")
     page.until("by('copied').textContent.startsWith('not copied')")
-    same("what is marked then", page.value("getSelection().toString().replace(/\\s+/g, ' ').trim()"), page.text("command").strip())
+    same(page.value("getSelection().toString().replace(/\\s+/g, ' ').trim()"), page.text("command").strip(), "what is marked then")
 
 
 def try_latest(page):
@@ -216,12 +218,12 @@ def try_latest(page):
         await new Promise((next) => setTimeout(next));
         return [...done, ends.length];
     })()""")
-    same("what ran", told, [[1, False], [3, True], False, [4, True], 3])
+    same(told, [[1, False], [3, True], False, [4, True], 3], "what ran")
 
 
 def try_pictures(page):
     page.load()
-    same("what is wrong with pictures", page.in_worker(script("pictures")), [])
+    same(page.in_worker(script("pictures")), [], "what is wrong with pictures")
 
 
 def try_all(page, program):

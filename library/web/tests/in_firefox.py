@@ -17,7 +17,7 @@ def opened_up(path, room):
     with open(path, encoding="utf-8") as file:
         text = file.read()
     for old, new in OPENED:
-        same(f"how often the page has {old!r}", text.count(old), 1)
+        same(text.count(old), 1, f"how often the page has {old!r}")
         text = text.replace(old, new)
     copy = os.path.join(room, "page.html")
     with open(copy, "w", encoding="utf-8") as file:
@@ -32,7 +32,7 @@ def try_keys(page):
     k = page.k()
     for key, wanted in (("ArrowUp", k + 1), ("ArrowRight", k + 2), ("ArrowLeft", k + 1)):
         page.browser.key(key)
-        same(f"layer after {key}", page.k(), wanted)
+        same(page.k(), wanted, f"layer after {key}")
     holds("the picture is drawn", page.value("""(() => {
         const { width, height } = by("image"), dots = by("image").getContext("2d").getImageData(0, 0, width, height).data;
         const [red] = colour_of("body");

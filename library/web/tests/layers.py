@@ -19,30 +19,30 @@ def loops_of(mesh, k):
     while True:
         status = mesh._status("loops", k, points, len(points) // 2, counts[0], ends, len(ends), counts[1])
         if status != NO_ROOM:
-            same("status of the library's loops", status, 0)
+            same(status, 0, "status of the library's loops")
             return list(points[:2 * counts[0].value]), list(ends[:counts[1].value])
         points, ends = (ctypes.c_int64 * (2 * counts[0].value))(), (ctypes.c_size_t * counts[1].value)()
 
 
 def compare_layers(page, case, stlslice):
     told, name = page.in_worker(script("all_layers")), f"{case.path} {case.words}"
-    same(f"images of {name}", base64.b64decode(told["images"]), case.stream)
-    same(f"areas of {name}", told["areas"], case.numbers(5))
-    same(f"areas by stripes of {name}", told["stripes"], case.numbers(5))
-    same(f"loops of {name}", [len(it) for it in told["ends"]], case.numbers(3))
+    same(base64.b64decode(told["images"]), case.stream, f"images of {name}")
+    same(told["areas"], case.numbers(5), f"areas of {name}")
+    same(told["stripes"], case.numbers(5), f"areas by stripes of {name}")
+    same([len(it) for it in told["ends"]], case.numbers(3), f"loops of {name}")
     points = base64.b64decode(told["points"])
     points = list(struct.unpack(f"<{len(points) // 8}d", points))
     options = case.options
     with stlslice.open(case.path, options["pitch"], options["layer"], library_test.RULES[options["rule"]], options["grid"],
                        library_test.UNITS[options["unit"]]) as mesh:
         wanted = [loops_of(mesh, k) for k in range(len(mesh))]
-    same(f"points of {name}", points, [it for found, _ in wanted for it in found])
-    same(f"ends of {name}", told["ends"], [ends for _, ends in wanted])
+    same(points, [it for found, _ in wanted for it in found], f"points of {name}")
+    same(told["ends"], [ends for _, ends in wanted], f"ends of {name}")
 
 
 def compare_fault(page, case):
-    same(f"line of {case.path} {case.words}", f"stlslice: {page.text('fault_line')}\n", case.line)
-    same(f"status of {case.path}", page.text("fault_head"), f"{os.path.basename(case.path)} is refused, status {case.status}")
+    same(f"stlslice: {page.text('fault_line')}\n", case.line, f"line of {case.path} {case.words}")
+    same(page.text("fault_head"), f"{os.path.basename(case.path)} is refused, status {case.status}", f"status of {case.path}")
     holds(f"a hint for {case.line}", page.value("by('hints').children.length > 0"))
     byte = re.search(r"at byte (\d+)", case.line)
     if byte:
@@ -55,7 +55,7 @@ def open_in_grid(page, case):
     """Opens the case in its grid, for which the form has no field."""
     found = page.value(f"slicer.call('open', {json.dumps(case.options)}).then(() => null, (it) => [it.status, it.message])")
     wanted = [case.status, case.line[len("stlslice: "):-1]] if case.status else None
-    same(f"fault of {case.path} {case.words}", found, wanted)
+    same(found, wanted, f"fault of {case.path} {case.words}")
 
 
 def compare(page, every, stlslice):

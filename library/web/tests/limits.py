@@ -22,11 +22,11 @@ def try_little_memory(page):
     opened_bracket(page)
     told = page.in_worker(script("little_memory"))
     for name, found in told.items():
-        same(f"how {name} ends in little memory", set(found), STATUSES)
+        same(set(found), STATUSES, f"how {name} ends in little memory")
     page.value("part = { ...part }; slice()")
     page.until("!by('fault').hidden")
-    same("the page out of memory", [page.text("fault_head"), page.text("fault_line")],
-         ["bracket.stl is refused, status 6", "out of memory"])
+    same([page.text("fault_head"), page.text("fault_line")], ["bracket.stl is refused, status 6", "out of memory"],
+         "the page out of memory")
     holds("with its hint", "slabs" in page.text("hints"))
     return sum(sum(it.values()) for it in told.values()), sum(it["6"] for it in told.values())
 
@@ -57,7 +57,7 @@ def try_full_stack(page):
             must_refuse(page, told)
         else:
             right += 1
-            same(f"the layer with a stack of {size}", told, wanted)
+            same(told, wanted, f"the layer with a stack of {size}")
         size = size * 4 // 3 // 16 * 16 + 16
     holds(f"both ends were seen: {right} right, {stopped} stopped", right and stopped)
     return right, stopped
@@ -66,11 +66,11 @@ def try_full_stack(page):
 def must_refuse(page, line):
     """The worker refuses each call, the page says why, and the next opening has a new worker."""
     for call in ("areas', { from: 0, milliseconds: 1 }", "png', { k: 9 }", "open', { pitch: 500, layer: 500, rule: 2, unit: 0 }"):
-        same(f"the call {call}", page.value(f"slicer.call('{call}).then(() => null, (it) => it.message)"), line)
+        same(page.value(f"slicer.call('{call}).then(() => null, (it) => it.message)"), line, f"the call {call}")
     page.value("slicer.call('layer', { k: 9 }).catch((fault) => refused(fault, part))")
     page.until("!by('fault').hidden")
-    same("what the page says", [page.text("fault_line"), page.text("fault_place")],
-         [line, "Change an option or choose a part to start it anew."])
+    same([page.text("fault_line"), page.text("fault_place")], [line, "Change an option or choose a part to start it anew."],
+         "what the page says")
     page.change(pitch=500)
     page.until(f"{IDLE} && opened")
 
@@ -99,7 +99,7 @@ def try_openings(page):
     page.set(400, 400)
     page.take(example("calibration_block"))
     soon, at_last = page.value(MANY % OPENINGS)
-    same("the memory after many openings", at_last, soon)
+    same(at_last, soon, "the memory after many openings")
     holds("a buffer that grows gives back the one before", page.in_worker(GROWING) < 32 << 20)
     return soon
 
@@ -159,7 +159,7 @@ def try_stop(page, path, what):
     holds(f"{what} can be stopped", page.text("fault_line").startswith("stopped by hand"))
     page.value("(File.prototype.arrayBuffer = globalThis.read ?? File.prototype.arrayBuffer, 0)")
     page.take(example("bracket"))
-    same(f"facets of the part after {what}", page.value("opened.facets"), 236)
+    same(page.value("opened.facets"), 236, f"facets of the part after {what}")
 
 
 DENIED = "globalThis.Worker = class { constructor() { throw new Error('denied'); } }"
@@ -170,17 +170,18 @@ def try_broken_worker(page):
     page.load()
     page.value("(globalThis.script = by('worker').textContent, by('worker').textContent = 'throw new Error(\"broken\")', renew())")
     page.take(example("bracket"))
-    same("what the page says", [page.text("fault_line"), page.text("fault_place")],
-         ["the worker has failed: Uncaught Error: broken", "Change an option or choose a part to start it anew."])
+    same([page.text("fault_line"), page.text("fault_place")],
+         ["the worker has failed: Uncaught Error: broken", "Change an option or choose a part to start it anew."],
+         "what the page says")
     page.value("by('worker').textContent = script")
     page.change(pitch=500)
     page.until(f"{IDLE} && opened")
     denied = page.browser.ask("Page.addScriptToEvaluateOnNewDocument", source=DENIED)["identifier"]
     page.load()
     page.browser.ask("Page.removeScriptToEvaluateOnNewDocument", identifier=denied)
-    same("what the page says first", page.text("fault_line"), "this browser cannot run the slicer: the worker has failed: denied")
+    same(page.text("fault_line"), "this browser cannot run the slicer: the worker has failed: denied", "what the page says first")
     page.take(example("bracket"))
-    same("what it says of a part", page.text("fault_line"), "the worker has failed: denied")
+    same(page.text("fault_line"), "the worker has failed: denied", "what it says of a part")
 
 
 def try_all(page, room):

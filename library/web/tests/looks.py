@@ -12,7 +12,7 @@ STATES = 7
 
 
 def look(page, folder, name):
-    same(f"what is wrong in the window {name}", page.value(script("laid_out")), [])
+    same(page.value(script("laid_out")), [], f"what is wrong in the window {name}")
     if folder:
         os.makedirs(folder, exist_ok=True)
         page.browser.picture(os.path.join(folder, f"{name}.png"))
