@@ -4,7 +4,7 @@
 -- - `IsCorner`: an index names a point in range
 -- - `Spells`: each index names a point in range, and these are the facets of the triangles
 -- - `Reaches`: a reader that goes through the triangles in order comes to this index
--- - `IsFaultOf`: the one fault of arrays
+-- - `IsFaultOfArrays`: the one fault of arrays
 use Rattle.std.specs.Prelude.{◌≡◌, ◌<◌, ◌≤◌, ℕ, ℤ, pos, All, List, [], length, map, slice_index, slice_index_or, take}
 use Rattle.geometry.specs.Point.{IsMeshPoint, Point}
 use Rattle.geometry.specs.Facet.{Facet, facet_with}
@@ -67,9 +67,9 @@ pub record IsOneMore (points : List (List ℤ)) (triangles : List (List ℕ)) (t
   pub before : All (All (IsCorner points)) (take triangle triangles)
 
 -- the one fault of arrays that are no facets
-abbrev pub IsFaultOf : List (List ℤ) → List (List ℕ) → ArrayFault → Type 0
-IsFaultOf points triangles (fault.Missing triangle point) = Reaches points triangles triangle point × (length points ≤ point)
-IsFaultOf points triangles (fault.OutOfRange triangle point) =
+abbrev pub IsFaultOfArrays : List (List ℤ) → List (List ℕ) → ArrayFault → Type 0
+IsFaultOfArrays points triangles (fault.Missing triangle point) = Reaches points triangles triangle point × (length points ≤ point)
+IsFaultOfArrays points triangles (fault.OutOfRange triangle point) =
     Reaches points triangles triangle point × (point < length points) × (IsMeshPoint (point_at points point) → ⊥)
-IsFaultOf points triangles (fault.TooMany triangle) = IsOneMore points triangles triangle
-IsFaultOf points triangles fault.Memory = ⊥
+IsFaultOfArrays points triangles (fault.TooMany triangle) = IsOneMore points triangles triangle
+IsFaultOfArrays points triangles fault.Memory = ⊥

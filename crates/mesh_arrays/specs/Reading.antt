@@ -2,7 +2,7 @@
 use Rattle.std.specs.Prelude.{◌≡◌, ◌≢◌, ◌<◌, ◌≤◌, ℕ, ℤ, IfErr, IfOk, List, MatchResult, Result, Vec, length}
 use Rattle.geometry.specs.Point.{IsMeshPoint}
 use Rattle.geometry.specs.Facet.{Facet}
-use Rattle.mesh_arrays.specs.Arrays.{IsFaultOf, Spells, Stands, point_at}
+use Rattle.mesh_arrays.specs.Arrays.{IsFaultOfArrays, Spells, Stands, point_at}
 use Rattle.mesh_arrays.specs.declared.array_fault.ArrayFault.{ArrayFault}
 use Rattle.mesh_arrays.specs.declared.array_fault.ArrayFault.TheVariants as fault
 
@@ -14,7 +14,7 @@ pub record IsAnswerTo {A : Type 0} (points : List (List ℤ)) (triangles : List 
   pub only : (facets : List Facet) → Spells points triangles facets
       → MatchResult result (λ found. found.items ≡ facets) (λ cause. cause ≡ fault.Memory)
   -- a fault is the arrays', unless memory runs out
-  pub fault : IfErr result (λ cause. cause ≢ fault.Memory → IsFaultOf points triangles cause)
+  pub fault : IfErr result (λ cause. cause ≢ fault.Memory → IsFaultOfArrays points triangles cause)
 
 -- why an index of a triangle is no corner
 abbrev pub IsCornerFault : List (List ℤ) → ℕ → ℕ → ArrayFault → Type 0

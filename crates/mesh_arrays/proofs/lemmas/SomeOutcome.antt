@@ -7,7 +7,7 @@ use Rattle.exact_int.specs.Bounds.{IsAtMost}
 use Rattle.geometry.specs.Facet.{Facet}
 use Rattle.geometry.specs.Point.{IsMeshPoint, Point}
 use Rattle.geometry.specs.declared.limits.TheConstants.{COORDINATE_LIMIT, FACET_LIMIT}
-use Rattle.mesh_arrays.specs.Arrays.{IsCorner, IsFaultOf, Reaches, Spells, Stands, facet_of, point_at, triangle_at}
+use Rattle.mesh_arrays.specs.Arrays.{IsCorner, IsFaultOfArrays, Reaches, Spells, Stands, facet_of, point_at, triangle_at}
 use Rattle.mesh_arrays.specs.declared.array_fault.ArrayFault.{ArrayFault}
 use Rattle.mesh_arrays.specs.declared.array_fault.ArrayFault.TheVariants as fault
 
@@ -74,7 +74,7 @@ all_corners points corners = by (first_corners points corners (length corners) (
     by (inr found) = inr found
 
 abbrev AFault : List (List ℤ) → List (List ℕ) → Type 0
-AFault points triangles = (f : ArrayFault) × IsFaultOf points triangles f
+AFault points triangles = (f : ArrayFault) × IsFaultOfArrays points triangles f
 
 fault_at : (points : List (List ℤ)) (triangles : List (List ℕ)) (t index : ℕ) → Reaches points triangles t index → Refused points index → AFault points triangles
 fault_at points triangles t index r (inl past) = (fault.Missing t index, (r, past))
