@@ -2,7 +2,7 @@
 -- the points. This is which facets arrays are, and which fault they have otherwise.
 -- - `point_at`: the point with an index
 -- - `IsCorner`: an index names a point in range
--- - `Spells`: each index names a point in range, and these are the facets of the triangles
+-- - `ReadsArrays`: each index names a point in range, and these are the facets of the triangles
 -- - `Reaches`: a reader that goes through the triangles in order comes to this index
 -- - `IsFaultOfArrays`: the one fault of arrays
 use Rattle.std.specs.Prelude.{◌≡◌, ◌<◌, ◌≤◌, ℕ, ℤ, pos, All, List, [], length, map, slice_index, slice_index_or, take}
@@ -40,7 +40,7 @@ triangle_at triangles number = slice_index_or triangles number []
 
 -- Each index of each triangle names a point in range, and these are the facets of the triangles, in order. There are no more
 -- than are read.
-pub record Spells (points : List (List ℤ)) (triangles : List (List ℕ)) (facets : List Facet) : Type 0 where
+pub record ReadsArrays (points : List (List ℤ)) (triangles : List (List ℕ)) (facets : List Facet) : Type 0 where
   pub few : length triangles ≤ FACET_LIMIT
   pub corners : All (All (IsCorner points)) triangles
   pub each : facets ≡ map (facet_of points) triangles

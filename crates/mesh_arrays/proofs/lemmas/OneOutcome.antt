@@ -5,7 +5,7 @@ use Rattle.std.proofs.lemmas.Bool.{cases_order}
 use Rattle.std.proofs.lemmas.List.{get_or-take, length-take-le}
 use Rattle.geometry.specs.Facet.{Facet}
 use Rattle.geometry.specs.Point.{IsMeshPoint}
-use Rattle.mesh_arrays.specs.Arrays.{IsCorner, IsFaultOfArrays, IsOneMore, Reaches, Spells, Stands, point_at, triangle_at}
+use Rattle.mesh_arrays.specs.Arrays.{IsCorner, IsFaultOfArrays, IsOneMore, Reaches, ReadsArrays, Stands, point_at, triangle_at}
 use Rattle.mesh_arrays.specs.declared.array_fault.ArrayFault.{ArrayFault}
 use Rattle.mesh_arrays.specs.declared.array_fault.ArrayFault.TheVariants as fault
 
@@ -92,14 +92,14 @@ one_fault points triangles (fault.TooMany t) (fault.TooMany u) more one = ap fau
 one_fault points triangles (fault.TooMany t) fault.Memory is js = absurd js
 one_fault points triangles fault.Memory g is js = absurd is
 
-pub one_reading : (points : List (List ℤ)) (triangles : List (List ℕ)) (facets others : List Facet) → Spells points triangles facets → Spells points triangles others
+pub one_reading : (points : List (List ℤ)) (triangles : List (List ℕ)) (facets others : List Facet) → ReadsArrays points triangles facets → ReadsArrays points triangles others
     → facets ≡ others
 one_reading points triangles facets others is js = is.each ∙ sym js.each
 
-no_place : (points : List (List ℤ)) (triangles : List (List ℕ)) (facets : List Facet) (t p : ℕ) → Spells points triangles facets → Reaches points triangles t p → IsNone points p → ⊥
+no_place : (points : List (List ℤ)) (triangles : List (List ℕ)) (facets : List Facet) (t p : ℕ) → ReadsArrays points triangles facets → Reaches points triangles t p → IsNone points p → ⊥
 no_place points triangles facets t p is r refuted = is_no_facet points (triangle_at triangles t) p r.stands refuted (is.corners t [] r.inside)
 
-pub not_both : (points : List (List ℤ)) (triangles : List (List ℕ)) (facets : List Facet) (f : ArrayFault) → Spells points triangles facets → IsFaultOfArrays points triangles f → ⊥
+pub not_both : (points : List (List ℤ)) (triangles : List (List ℕ)) (facets : List Facet) (f : ArrayFault) → ReadsArrays points triangles facets → IsFaultOfArrays points triangles f → ⊥
 not_both points triangles facets (fault.Missing t p) is (r, past) = no_place points triangles facets t p is r (missing_none points p past)
 not_both points triangles facets (fault.OutOfRange t p) is (r, inside, out) = no_place points triangles facets t p is r (not_in_range points p out)
 not_both points triangles facets (fault.TooMany t) is more =

@@ -7,7 +7,7 @@ use Rattle.exact_int.specs.Bounds.{IsAtMost}
 use Rattle.geometry.specs.Facet.{Facet}
 use Rattle.geometry.specs.Point.{IsMeshPoint, Point}
 use Rattle.geometry.specs.declared.limits.TheConstants.{COORDINATE_LIMIT, FACET_LIMIT}
-use Rattle.mesh_arrays.specs.Arrays.{IsCorner, IsFaultOfArrays, Reaches, Spells, Stands, facet_of, point_at, triangle_at}
+use Rattle.mesh_arrays.specs.Arrays.{IsCorner, IsFaultOfArrays, Reaches, ReadsArrays, Stands, facet_of, point_at, triangle_at}
 use Rattle.mesh_arrays.specs.declared.array_fault.ArrayFault.{ArrayFault}
 use Rattle.mesh_arrays.specs.declared.array_fault.ArrayFault.TheVariants as fault
 
@@ -101,7 +101,7 @@ first_triangles points triangles (suc n) few read =
         inl (subst (λ k. All (All (IsCorner points)) (take k triangles)) (add-one n) more)
 
 abbrev Outcome : List (List ℤ) → List (List ℕ) → Type 0
-Outcome points triangles = ((facets : List Facet) × Spells points triangles facets) ⊎ AFault points triangles
+Outcome points triangles = ((facets : List Facet) × ReadsArrays points triangles facets) ⊎ AFault points triangles
 
 pub either : (points : List (List ℤ)) (triangles : List (List ℕ)) → Outcome points triangles
 either points triangles = by (below_or_not (length triangles) FACET_LIMIT)
