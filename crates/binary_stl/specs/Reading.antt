@@ -2,7 +2,7 @@
 use Rattle.std.specs.Prelude.{◌≡◌, ◌≢◌, ◌<◌, ℕ, Err, IfErr, IfOk, IsOk, List, MatchResult, Result, Vec}
 use Rattle.geometry.specs.Facet.{Facet}
 use Rattle.micro_num.specs.declared.unit.Unit.{Unit as LengthUnit}
-use Rattle.binary_stl.specs.Binary.{IsFaultOf, Reads, axis_number, coordinate_at, coordinates_before}
+use Rattle.binary_stl.specs.Binary.{IsFaultOfBinary, Reads, axis_number, coordinate_at, coordinates_before}
 use Rattle.binary_stl.specs.declared.binary_fault.BinaryFault.{BinaryFault}
 use Rattle.binary_stl.specs.declared.binary_fault.BinaryFault.TheVariants as fault
 
@@ -13,7 +13,7 @@ pub record IsAnswerTo {A : Type 0} (unit : LengthUnit) (bytes : List ℕ) (resul
   -- if the bytes are facets, exactly these are returned, unless memory runs out
   pub only : (facets : List Facet) → Reads unit bytes facets → MatchResult result (λ found. found.items ≡ facets) (λ cause. cause ≡ fault.Memory)
   -- a fault is that of the bytes, unless memory runs out
-  pub fault : IfErr result (λ cause. cause ≢ fault.Memory → IsFaultOf unit bytes cause)
+  pub fault : IfErr result (λ cause. cause ≢ fault.Memory → IsFaultOfBinary unit bytes cause)
 
 -- the fault of a corner: its first number that stands for no coordinate
 abbrev pub IsCornerFault : LengthUnit → List ℕ → ℕ → ℕ → BinaryFault → Type 0

@@ -3,7 +3,7 @@ use Rattle.std.proofs.Common.{ℕ, List}
 use Rattle.std.specs.Prelude.{Err, Ok, Vec}
 use Rattle.geometry.specs.Facet.{Facet}
 use Rattle.micro_num.specs.declared.unit.Unit.{Unit as LengthUnit}
-use Rattle.binary_stl.specs.Binary.{IsFaultOf, Reads}
+use Rattle.binary_stl.specs.Binary.{IsFaultOfBinary, Reads}
 use Rattle.binary_stl.specs.Reading.{IsAnswerTo}
 use Rattle.binary_stl.specs.declared.binary_fault.BinaryFault.{BinaryFault}
 use Rattle.binary_stl.proofs.lemmas.OneOutcome.{not_both, one_reading}
@@ -15,7 +15,7 @@ answer_found unit bytes facets is = record {
   fault = tt;
 }
 
-pub answer_fault : {A : Type 0} (unit : LengthUnit) (bytes : List ℕ) (f : BinaryFault) → IsFaultOf unit bytes f → IsAnswerTo {A = A} unit bytes (Err f)
+pub answer_fault : {A : Type 0} (unit : LengthUnit) (bytes : List ℕ) (f : BinaryFault) → IsFaultOfBinary unit bytes f → IsAnswerTo {A = A} unit bytes (Err f)
 answer_fault unit bytes f is = record {
   found = tt;
   only = λ facets js. absurd (not_both unit bytes facets f js is);
