@@ -5,7 +5,7 @@
 -- - `number_from`, `facet_count`: a number by its place, the count of facets
 -- - `IsBinary`, `is_binary`: the bytes are as many as the count takes
 -- - `coordinate_at`: the coordinate of a corner, or its fault
--- - `Reads`: the bytes are these facets
+-- - `ReadsBinary`: the bytes are these facets
 -- - `Reaches`: a reader that goes through the coordinates in order comes to this one
 -- - `IsFaultOfBinary`: the one fault of bytes
 use Rattle.std.specs.Prelude.{◌≡◌, ◌≢◌, ◌+◌, ◌*◌, ◌<◌, ◌≤◌, ◌^◌, ◌==◌, ◌&&◌, ◌||◌, ℕ, ℤ, Bool, true, not, nat_le, List, Result, Ok, Err, IsOk, length, slice_index, slice_index_or}
@@ -81,7 +81,7 @@ abbrev pub AreFirstFacets : LengthUnit → List ℕ → List Facet → Type 0
 AreFirstFacets unit bytes facets = (k : ℕ) (none : Facet) → k < length facets → IsFacetAt unit bytes k (slice_index_or facets k none)
 
 -- The bytes are a binary STL of no more facets than are read, and these are its facets, in order.
-pub record Reads (unit : LengthUnit) (bytes : List ℕ) (facets : List Facet) : Type 0 where
+pub record ReadsBinary (unit : LengthUnit) (bytes : List ℕ) (facets : List Facet) : Type 0 where
   pub form : IsBinary bytes
   pub few : facet_count bytes ≤ FACET_LIMIT
   pub count : length facets ≡ facet_count bytes
