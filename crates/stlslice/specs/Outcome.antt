@@ -64,16 +64,14 @@ placing_of (Some given) = placing.Given given.columns given.rows given.layers gi
 abbrev pub grid_for : Option Given → ℕ → ℕ → List Facet → Result Grid GridFault
 grid_for given pitch layer facets = placed_grid (placing_of given) facets pitch layer
 
-abbrev pub outside : Grid → RunFault
-outside g = fault.Outside g.columns g.rows g.layers
-
 -- with a grid, what it gives; without one, the grid's fault
 abbrev pub with_grid : (Grid → Result (List ℕ) RunFault) → Result Grid GridFault → Result (List ℕ) RunFault
 with_grid f (Ok g) = f g
 with_grid f (Err cause) = Err (fault.Grid cause)
 
 abbrev pub probed_text : ℕ → ℕ → ℕ → List Facet → Grid → Result (List ℕ) RunFault
-probed_text i j k facets g = if is_voxel g i j k then Ok (probe_text g facets i j k) else Err (outside g)
+probed_text i j k facets g =
+    if is_voxel g i j k then Ok (probe_text g facets i j k) else Err (fault.Outside g.columns g.rows g.layers)
 
 -- the result of a probe for the kept facets of a closed mesh
 abbrev pub probed : Option Given → ℕ → ℕ → ℕ → ℕ → ℕ → List Facet → Result (List ℕ) RunFault

@@ -15,7 +15,7 @@ use Rattle.mesh_reading.specs.declared.read_fault.ReadFault.{ReadFault}
 use Rattle.mesh_reading.specs.declared.read_fault.ReadFault.TheVariants as read
 use Rattle.stlslice.specs.declared.run_fault.RunFault.{RunFault}
 use Rattle.stlslice.specs.declared.run_fault.RunFault.TheVariants as fault
-use Rattle.stlslice.specs.Outcome.{IsMade, IsOutcome, boxed, closed, grid_for, is_box, line_text, misread, open_mesh, outside, probed_text, unit_of}
+use Rattle.stlslice.specs.Outcome.{IsMade, IsOutcome, boxed, closed, grid_for, is_box, line_text, misread, open_mesh, probed_text, unit_of}
 use Rattle.stlslice.specs.RunFault.{of_read}
 use Rattle.stlslice.specs.Run.{IsRunFault}
 
@@ -91,10 +91,11 @@ probed_there unit pitch layer given i j k input solid g answer s placed is =
 -- so is its fault, unless memory is short
 pub probed_fault : (unit : LengthUnit) (pitch layer : ℕ) (given : Option Given) (i j k : ℕ) (input : List ℕ) (solid : Solid) (g : Grid)
     (f : RunFault) → IsSolidOf unit input solid → grid_for given pitch layer solid.facets ≡ Ok g
-    → (f ≡ fault.Memory) ⊎ (f ≡ outside g) × (Err f ≡ probed_text i j k solid.facets g)
+    → (f ≡ fault.Memory) ⊎ (f ≡ fault.Outside g.columns g.rows g.layers) × (Err f ≡ probed_text i j k solid.facets g)
     → IsWorkFault (task.Probe unit pitch layer given i j k) input f
 probed_fault unit pitch layer given i j k input solid g f s placed (inl is) = rw is (tt, (λ e. cc), (λ w e. cc))
 probed_fault unit pitch layer given i j k input solid g f s placed (inr h) =
-    let said : Err (outside g) ≡ probed_text i j k solid.facets g =
+    let own : RunFault = fault.Outside g.columns g.rows g.layers in
+    let said : Err own ≡ probed_text i j k solid.facets g =
     subst (λ (x : RunFault). Err x ≡ probed_text i j k solid.facets g) h.0 h.1 in
-    rw h.0 (probed_there unit pitch layer given i j k input solid g (Err (outside g)) s placed said, (λ e. cc), (λ w e. cc))
+    rw h.0 (probed_there unit pitch layer given i j k input solid g (Err own) s placed said, (λ e. cc), (λ w e. cc))
