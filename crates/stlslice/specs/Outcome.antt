@@ -74,8 +74,8 @@ probed_text i j k facets g =
     if is_voxel g i j k then Ok (probe_text g facets i j k) else Err (fault.Outside g.columns g.rows g.layers)
 
 -- the result of a probe for the kept facets of a closed mesh
-abbrev pub probed : Option Given → ℕ → ℕ → ℕ → ℕ → ℕ → List Facet → Result (List ℕ) RunFault
-probed grid pitch layer i j k facets = with_grid (probed_text i j k facets) (grid_for grid pitch layer facets)
+abbrev pub probe_result : Option Given → ℕ → ℕ → ℕ → ℕ → ℕ → List Facet → Result (List ℕ) RunFault
+probe_result grid pitch layer i j k facets = with_grid (probed_text i j k facets) (grid_for grid pitch layer facets)
 
 -- the task of slicing that has this output
 abbrev pub slicing : LengthUnit → ℕ → ℕ → Rule → ℕ → Option Given → Output → Task
@@ -94,7 +94,7 @@ IsMade (task.Slice unit pitch layer rule workers report grid) solid answer =
     answer ≡ sliced grid pitch layer rule (output_of report) solid.facets
 IsMade (task.Png unit pitch layer rule workers grid depth mirrors) solid answer =
     answer ≡ sliced grid pitch layer rule (output.Pngs depth mirrors) solid.facets
-IsMade (task.Probe unit pitch layer grid i j k) solid answer = answer ≡ probed grid pitch layer i j k solid.facets
+IsMade (task.Probe unit pitch layer grid i j k) solid answer = answer ≡ probe_result grid pitch layer i j k solid.facets
 
 -- The program's outcome for a task and an input, by the order of its checks. The text has to read as facets, and for a box that
 -- is all. Else the mesh has to be closed, and then the grid and the voxel decide.
