@@ -2,7 +2,8 @@
 use Rattle.std.specs.Prelude.{◌≡◌, ◌≢◌, ◌<◌, ◌≤◌, ℕ, ℤ, IfErr, IfOk, List, MatchResult, Result, Vec, length}
 use Rattle.geometry.specs.Point.{IsMeshPoint}
 use Rattle.geometry.specs.Facet.{Facet}
-use Rattle.mesh_arrays.specs.Arrays.{IsFaultOfArrays, ReadsArrays, Stands, point_at}
+use Rattle.geometry.specs.Indexed.{indexed_point}
+use Rattle.mesh_arrays.specs.Arrays.{IsFaultOfArrays, ReadsArrays, Stands}
 use Rattle.mesh_arrays.specs.declared.array_fault.ArrayFault.{ArrayFault}
 use Rattle.mesh_arrays.specs.declared.array_fault.ArrayFault.TheVariants as fault
 
@@ -20,7 +21,7 @@ pub record IsAnswerTo {A : Type 0} (points : List (List ℤ)) (triangles : List 
 abbrev pub IsCornerFault : List (List ℤ) → ℕ → ℕ → ArrayFault → Type 0
 IsCornerFault points triangle index (fault.Missing number point) = (number ≡ triangle) × (point ≡ index) × (length points ≤ index)
 IsCornerFault points triangle index (fault.OutOfRange number point) =
-    (number ≡ triangle) × (point ≡ index) × (index < length points) × (IsMeshPoint (point_at points index) → ⊥)
+    (number ≡ triangle) × (point ≡ index) × (index < length points) × (IsMeshPoint (indexed_point points index) → ⊥)
 IsCornerFault points triangle index (fault.TooMany number) = ⊥
 IsCornerFault points triangle index fault.Memory = ⊥
 

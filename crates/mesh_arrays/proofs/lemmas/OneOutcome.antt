@@ -5,7 +5,8 @@ use Rattle.std.proofs.lemmas.Bool.{cases_order}
 use Rattle.std.proofs.lemmas.List.{get_or-take, length-take-le}
 use Rattle.geometry.specs.Facet.{Facet}
 use Rattle.geometry.specs.Point.{IsMeshPoint}
-use Rattle.mesh_arrays.specs.Arrays.{IsCorner, IsFaultOfArrays, IsOneMore, Reaches, ReadsArrays, Stands, point_at, triangle_at}
+use Rattle.geometry.specs.Indexed.{indexed_point}
+use Rattle.mesh_arrays.specs.Arrays.{IsCorner, IsFaultOfArrays, IsOneMore, Reaches, ReadsArrays, Stands, triangle_at}
 use Rattle.mesh_arrays.specs.declared.array_fault.ArrayFault.{ArrayFault}
 use Rattle.mesh_arrays.specs.declared.array_fault.ArrayFault.TheVariants as fault
 
@@ -63,7 +64,7 @@ not_one_more points triangles t u p more r refuted =
     let lt : u < t = omega (arith, more.number, r.few) in
     is_no_facet points (triangle_at triangles u) p r.stands refuted (of_first (All (IsCorner points)) triangles t u [] few lt more.before)
 
-not_in_range : (points : List (List ℤ)) (index : ℕ) → (IsMeshPoint (point_at points index) → ⊥) → IsNone points index
+not_in_range : (points : List (List ℤ)) (index : ℕ) → (IsMeshPoint (indexed_point points index) → ⊥) → IsNone points index
 not_in_range points index out is = out is.in_range
 
 not_missing : (points : List (List ℤ)) (p q : ℕ) → p ≡ q → length points ≤ p → q < length points → ⊥

@@ -7,7 +7,8 @@ use Rattle.exact_int.specs.Bounds.{IsAtMost}
 use Rattle.geometry.specs.Facet.{Facet}
 use Rattle.geometry.specs.Point.{IsMeshPoint, Point}
 use Rattle.geometry.specs.declared.limits.TheConstants.{COORDINATE_LIMIT, FACET_LIMIT}
-use Rattle.mesh_arrays.specs.Arrays.{IsCorner, IsFaultOfArrays, Reaches, ReadsArrays, Stands, facet_of, point_at, triangle_at}
+use Rattle.geometry.specs.Indexed.{indexed_facet, indexed_point}
+use Rattle.mesh_arrays.specs.Arrays.{IsCorner, IsFaultOfArrays, Reaches, ReadsArrays, Stands, triangle_at}
 use Rattle.mesh_arrays.specs.declared.array_fault.ArrayFault.{ArrayFault}
 use Rattle.mesh_arrays.specs.declared.array_fault.ArrayFault.TheVariants as fault
 
@@ -36,12 +37,12 @@ mesh_point p = by (coordinate p.x) (coordinate p.y) (coordinate p.z)
 
 -- why an index is no corner
 abbrev Refused : List (List ℤ) → ℕ → Type 0
-Refused points index = (length points ≤ index) ⊎ ((index < length points) × (IsMeshPoint (point_at points index) → ⊥))
+Refused points index = (length points ≤ index) ⊎ ((index < length points) × (IsMeshPoint (indexed_point points index) → ⊥))
 
 corner : (points : List (List ℤ)) (index : ℕ) → IsCorner points index ⊎ Refused points index
-corner points index = by (below_or_not (length points) index) (mesh_point (point_at points index))
+corner points index = by (below_or_not (length points) index) (mesh_point (indexed_point points index))
   where
-    by : (length points ≤ index) ⊎ (index < length points) → IsMeshPoint (point_at points index) ⊎ (IsMeshPoint (point_at points index) → ⊥)
+    by : (length points ≤ index) ⊎ (index < length points) → IsMeshPoint (indexed_point points index) ⊎ (IsMeshPoint (indexed_point points index) → ⊥)
         → IsCorner points index ⊎ Refused points index
     by (inl past) p = inr (inl past)
     by (inr inside) (inl is) = inl (record { there = inside; in_range = is })
@@ -109,7 +110,7 @@ either points triangles = by (below_or_not (length triangles) FACET_LIMIT)
     few : length triangles ≤ FACET_LIMIT → All (All (IsCorner points)) (take (length triangles) triangles) ⊎ AFault points triangles → Outcome points triangles
     few read (inr found) = inr found
     few read (inl all) = inl (
-      map (facet_of points) triangles,
+      map (indexed_facet points) triangles,
       record {
         few = read;
         corners = subst (All (All (IsCorner points))) (take_all (length triangles) triangles (omega arith)) all;
