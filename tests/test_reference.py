@@ -23,7 +23,7 @@ BELIEVED = (
       "geometry.TieRule.is_below", "raster.Rule.is_inside", "raster.Image.images", "devices.Source", "devices.Sink"]),
     ("believe-text.html", "stl_text.Text.Reads", ["stl_text.Text.IsFaultOf", "micro_num.Micrometres.micro"]),
     ("believe-png.html", "stlslice.SlicedText.pngs", ["layer_png.Text.layer_png"]),
-    ("believe-box.html", "stlslice.Outcome.box_text", ["stlslice.Outcome.probed", "contour.Loops.loops", "geometry.Winding.ray_y"]),
+    ("believe-box.html", "stlslice.Outcome.box_text", ["stlslice.Outcome.probe_result", "contour.Loops.loops", "geometry.Winding.ray_y"]),
     ("believe-words.html", "task_words.read_words", ["task_words.Words.StandFor", "task_words.Words.options", "task_words.Options.said"]),
     ("believe-mask.html", "stlslice_c.stlslice_mask",
      ["stlslice_c.Answers.IsMaskAnswer", "raster.Image.layer_image", "geometry.Winding.ray", "raster.Rule.is_inside"]))

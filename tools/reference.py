@@ -31,7 +31,7 @@ NEW_LINE = re.compile(r"^\s*(pub |fn |///|#\[|where$|\}|\)|$)")
 # it leaves to other pages, the page that a reader has read before, and what it says in plain words.
 Believed = collections.namedtuple("Believed", "page title crate roots without after said")
 BELIEVED = [
-    Believed("believe-slice", "a slice as P4", "stlslice", ["run"], ["Reads", "IsFaultOf", "pngs", "report_text", "box_text", "probed"], "",
+    Believed("believe-slice", "a slice as P4", "stlslice", ["run"], ["Reads", "IsFaultOf", "pngs", "report_text", "box_text", "probe_result"], "",
              "A run reads facets, checks that they are closed, places a grid and writes one image a layer. The centre of each pixel "
              "is a point at half a pitch in its cell. The ray from it along x crosses facets, each with the sign of its winding. "
              "The pixel is 1 exactly if the rule calls the sum inside. If something is wrong, the run ends with one fault and has "
@@ -45,7 +45,7 @@ BELIEVED = [
              "A layer as PNG is the signature and three chunks, each with its length and its check sum. Its rows are packed with "
              "the leftmost pixel in the highest bit, and none is filtered. They are compressed as one block of runs. A reader "
              "is defined too, after ISO 15948 and RFC 1950 and 1951. It finds exactly the layer's pixels in these bytes."),
-    Believed("believe-box", "box, report and probe", "stlslice", ["Outcome.box_text", "SlicedText.report_text", "Outcome.probed"], [],
+    Believed("believe-box", "box, report and probe", "stlslice", ["Outcome.box_text", "SlicedText.report_text", "Outcome.probe_result"], [],
              "believe-slice",
              "The box is the number of all facets that were read, with the least and greatest coordinates of their corners. "
              "The report has a line a layer: how many loops its plane has, and how many pixels are filled. "

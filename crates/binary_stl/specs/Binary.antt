@@ -5,9 +5,9 @@
 -- - `number_from`, `facet_count`: a number by its place, the count of facets
 -- - `IsBinary`, `is_binary`: the bytes are as many as the count takes
 -- - `coordinate_at`: the coordinate of a corner, or its fault
--- - `Reads`: the bytes are these facets
+-- - `ReadsBinary`: the bytes are these facets
 -- - `Reaches`: a reader that goes through the coordinates in order comes to this one
--- - `IsFaultOf`: the one fault of bytes
+-- - `IsFaultOfBinary`: the one fault of bytes
 use Rattle.std.specs.Prelude.{◌≡◌, ◌≢◌, ◌+◌, ◌*◌, ◌<◌, ◌≤◌, ◌^◌, ◌==◌, ◌&&◌, ◌||◌, ℕ, ℤ, Bool, true, not, nat_le, List, Result, Ok, Err, IsOk, length, slice_index, slice_index_or}
 use Rattle.geometry.specs.Facet.{Facet}
 use Rattle.geometry.specs.Point.{Point}
@@ -81,7 +81,7 @@ abbrev pub AreFirstFacets : LengthUnit → List ℕ → List Facet → Type 0
 AreFirstFacets unit bytes facets = (k : ℕ) (none : Facet) → k < length facets → IsFacetAt unit bytes k (slice_index_or facets k none)
 
 -- The bytes are a binary STL of no more facets than are read, and these are its facets, in order.
-pub record Reads (unit : LengthUnit) (bytes : List ℕ) (facets : List Facet) : Type 0 where
+pub record ReadsBinary (unit : LengthUnit) (bytes : List ℕ) (facets : List Facet) : Type 0 where
   pub form : IsBinary bytes
   pub few : facet_count bytes ≤ FACET_LIMIT
   pub count : length facets ≡ facet_count bytes
@@ -101,11 +101,11 @@ pub record Reaches (unit : LengthUnit) (bytes : List ℕ) (facet corner axis : �
   pub before : (f c a : ℕ) → c < 3 → a < 3 → coordinates_before f c a < coordinates_before facet corner axis → IsOk (coordinate_at unit bytes f c a)
 
 -- the one fault of bytes that are no facets
-abbrev pub IsFaultOf : LengthUnit → List ℕ → BinaryFault → Type 0
-IsFaultOf unit bytes fault.Ended = length bytes < FACETS_START
-IsFaultOf unit bytes (fault.Length facets wanted found) =
+abbrev pub IsFaultOfBinary : LengthUnit → List ℕ → BinaryFault → Type 0
+IsFaultOfBinary unit bytes fault.Ended = length bytes < FACETS_START
+IsFaultOfBinary unit bytes (fault.Length facets wanted found) =
     (FACETS_START ≤ length bytes) × (facets ≡ facet_count bytes) × (wanted ≡ length_of facets) × (found ≡ length bytes) × (wanted ≢ found)
-IsFaultOf unit bytes (fault.TooMany facets) = IsBinary bytes × (facets ≡ facet_count bytes) × (FACET_LIMIT < facets)
-IsFaultOf unit bytes (fault.Number cause facet corner axis) =
+IsFaultOfBinary unit bytes (fault.TooMany facets) = IsBinary bytes × (facets ≡ facet_count bytes) × (FACET_LIMIT < facets)
+IsFaultOfBinary unit bytes (fault.Number cause facet corner axis) =
     Reaches unit bytes facet corner (axis_number axis) × (coordinate_at unit bytes facet corner (axis_number axis) ≡ Err cause)
-IsFaultOf unit bytes fault.Memory = ⊥
+IsFaultOfBinary unit bytes fault.Memory = ⊥

@@ -2,7 +2,7 @@
 ghost use Rattle.std.specs.Prelude.{◌≡◌, ◌<◌, ◌≤◌, ◌+◌, ◌↔◌, IfErr, IfOk, IsTrue, OnOk, length};
 ghost use Rattle.geometry.specs.declared.limits.TheConstants.{FACET_LIMIT};
 ghost use Rattle.micro_num.specs.declared.unit.Unit.{Unit as LengthUnit};
-ghost use Rattle.binary_stl.specs.Binary.{IsBinary, IsFaultOf, facet_count, is_binary, length_of, number_from};
+ghost use Rattle.binary_stl.specs.Binary.{IsBinary, IsFaultOfBinary, facet_count, is_binary, length_of, number_from};
 ghost use Rattle.binary_stl.specs.declared.limits.TheConstants.{FACETS_START, NUMBER_LEN};
 
 use crate::binary_fault::BinaryFault;
@@ -48,7 +48,7 @@ pub(crate) fn checked_count(bytes: &[u8]) -> Result<usize, BinaryFault>
     ensures count { IfOk result (λ n. n ≡ facet_count bytes.now) }
     ensures few { IfOk result (λ n. n ≤ FACET_LIMIT) }
     ensures form { OnOk result (IsBinary bytes.now) }
-    ensures fault { IfErr result (λ f. (unit : LengthUnit) → IsFaultOf unit bytes.now f) }
+    ensures fault { IfErr result (λ f. (unit : LengthUnit) → IsFaultOfBinary unit bytes.now f) }
 {
     let found = bytes.len();
     if found < FACETS_START {

@@ -5,7 +5,7 @@ ghost use Rattle.micro_num.specs.declared.unit.Unit.{Unit as LengthUnit};
 ghost use Rattle.micro_num.specs.Micrometres.{numeral_coordinate};
 ghost use Rattle.micro_num.specs.Numeral.{Numeral};
 ghost use Rattle.binary_stl.specs.Decimal.{IsDecimalOf};
-ghost use Rattle.binary_stl.specs.Binary.{HasTextForCount, IsBinary, IsFaultOf, Reads};
+ghost use Rattle.binary_stl.specs.Binary.{HasTextForCount, IsBinary, IsFaultOfBinary, ReadsBinary};
 ghost use Rattle.binary_stl.specs.Single.{coordinate_of, finite, single_of};
 ghost use Rattle.binary_stl.specs.declared.binary_fault.BinaryFault.{BinaryFault};
 ghost use Rattle.binary_stl.specs.declared.limits.TheConstants.{TEXT_LIMIT};
@@ -13,13 +13,13 @@ ghost use Rattle.binary_stl.specs.declared.limits.TheConstants.{TEXT_LIMIT};
 /// Bytes have exactly one outcome: one list of facets, or one fault.
 pub fn one_outcome()
     ensures reading { (unit : LengthUnit) (bytes : List ℕ) (facets others : List Facet)
-        → Reads unit bytes facets → Reads unit bytes others → facets ≡ others }
+        → ReadsBinary unit bytes facets → ReadsBinary unit bytes others → facets ≡ others }
     ensures fault { (unit : LengthUnit) (bytes : List ℕ) (fault other : BinaryFault)
-        → IsFaultOf unit bytes fault → IsFaultOf unit bytes other → fault ≡ other }
+        → IsFaultOfBinary unit bytes fault → IsFaultOfBinary unit bytes other → fault ≡ other }
     ensures not_both { (unit : LengthUnit) (bytes : List ℕ) (facets : List Facet) (fault : BinaryFault)
-        → Reads unit bytes facets → IsFaultOf unit bytes fault → ⊥ }
+        → ReadsBinary unit bytes facets → IsFaultOfBinary unit bytes fault → ⊥ }
     ensures either { (unit : LengthUnit) (bytes : List ℕ)
-        → ((facets : List Facet) × Reads unit bytes facets) ⊎ ((fault : BinaryFault) × IsFaultOf unit bytes fault) }
+        → ((facets : List Facet) × ReadsBinary unit bytes facets) ⊎ ((fault : BinaryFault) × IsFaultOfBinary unit bytes fault) }
 {}
 
 /// Numbers of the same value have the same coordinate, so corners that are equal stay equal. -0 is 0.

@@ -7,7 +7,7 @@ use Rattle.geometry.specs.declared.limits.TheConstants.{FACET_LIMIT}
 use Rattle.stl_text.specs.Text.{IsFaultOf, Reads}
 use Rattle.stl_text.specs.declared.stl_fault.StlFault.{StlFault}
 use Rattle.mesh_arrays.specs.declared.array_fault.ArrayFault.{ArrayFault}
-use Rattle.mesh_arrays.specs.Arrays.{IsFaultOf as IsFaultOfArrays, Spells}
+use Rattle.mesh_arrays.specs.Arrays.{IsFaultOfArrays, ReadsArrays as Spells}
 use Rattle.mesh_weld.specs.Balance.{IsBalanced, IsLeastOpen}
 use Rattle.mesh_weld.specs.Solid.{solid_of}
 use Rattle.mesh_weld.specs.declared.weld_fault.WeldFault.TheVariants as weld

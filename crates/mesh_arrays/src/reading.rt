@@ -1,6 +1,7 @@
 //! The facets of points and triangles, triangle by triangle.
 ghost use Rattle.std.specs.Prelude.{◌≡◌, All, IfErr, IfOk, OnOk};
-ghost use Rattle.mesh_arrays.specs.Arrays.{IsCorner, facet_of, point_at};
+ghost use Rattle.geometry.specs.Indexed.{indexed_facet, indexed_point};
+ghost use Rattle.mesh_arrays.specs.Arrays.{IsCorner};
 ghost use Rattle.mesh_arrays.specs.Reading.{IsAnswerTo, IsCornerFault, IsTriangleFault};
 
 use crate::array_fault::ArrayFault;
@@ -40,7 +41,7 @@ pub fn read_arrays<A: Allocator + Copy>(
 
 /// The facet of a triangle with this number.
 fn facet(points: &[[i32; 3]], triangle: usize, corners: &[u32; 3]) -> Result<Facet, ArrayFault>
-    ensures facet { IfOk result (λ facet. facet ≡ facet_of points.now corners.now) }
+    ensures facet { IfOk result (λ facet. facet ≡ indexed_facet points.now corners.now) }
     ensures corners { OnOk result (All (IsCorner points.now) corners.now) }
     ensures fault { IfErr result (IsTriangleFault points.now triangle corners.now) }
 {
@@ -54,7 +55,7 @@ fn facet(points: &[[i32; 3]], triangle: usize, corners: &[u32; 3]) -> Result<Fac
 
 /// The point with an index, which a triangle with this number has.
 fn corner(points: &[[i32; 3]], triangle: usize, index: u32) -> Result<Point, ArrayFault>
-    ensures point { IfOk result (λ point. point ≡ point_at points.now index) }
+    ensures point { IfOk result (λ point. point ≡ indexed_point points.now index) }
     ensures corner { OnOk result (IsCorner points.now index) }
     ensures fault { IfErr result (IsCornerFault points.now triangle index) }
 {

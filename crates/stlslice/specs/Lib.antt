@@ -3,7 +3,6 @@ pub mod SlicedText
 pub mod Outcome
 pub mod Writing
 pub mod Put
-pub mod Loading
 pub mod Run
 pub mod WrittenPixels
 pub mod Pages

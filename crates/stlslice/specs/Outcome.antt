@@ -64,20 +64,18 @@ placing_of (Some given) = placing.Given given.columns given.rows given.layers gi
 abbrev pub grid_for : Option Given → ℕ → ℕ → List Facet → Result Grid GridFault
 grid_for given pitch layer facets = placed_grid (placing_of given) facets pitch layer
 
-abbrev pub outside : Grid → RunFault
-outside g = fault.Outside g.columns g.rows g.layers
-
 -- with a grid, what it gives; without one, the grid's fault
 abbrev pub with_grid : (Grid → Result (List ℕ) RunFault) → Result Grid GridFault → Result (List ℕ) RunFault
 with_grid f (Ok g) = f g
 with_grid f (Err cause) = Err (fault.Grid cause)
 
 abbrev pub probed_text : ℕ → ℕ → ℕ → List Facet → Grid → Result (List ℕ) RunFault
-probed_text i j k facets g = if is_voxel g i j k then Ok (probe_text g facets i j k) else Err (outside g)
+probed_text i j k facets g =
+    if is_voxel g i j k then Ok (probe_text g facets i j k) else Err (fault.Outside g.columns g.rows g.layers)
 
 -- the result of a probe for the kept facets of a closed mesh
-abbrev pub probed : Option Given → ℕ → ℕ → ℕ → ℕ → ℕ → List Facet → Result (List ℕ) RunFault
-probed grid pitch layer i j k facets = with_grid (probed_text i j k facets) (grid_for grid pitch layer facets)
+abbrev pub probe_result : Option Given → ℕ → ℕ → ℕ → ℕ → ℕ → List Facet → Result (List ℕ) RunFault
+probe_result grid pitch layer i j k facets = with_grid (probed_text i j k facets) (grid_for grid pitch layer facets)
 
 -- the task of slicing that has this output
 abbrev pub slicing : LengthUnit → ℕ → ℕ → Rule → ℕ → Option Given → Output → Task
@@ -96,7 +94,7 @@ IsMade (task.Slice unit pitch layer rule workers report grid) solid answer =
     answer ≡ sliced grid pitch layer rule (output_of report) solid.facets
 IsMade (task.Png unit pitch layer rule workers grid depth mirrors) solid answer =
     answer ≡ sliced grid pitch layer rule (output.Pngs depth mirrors) solid.facets
-IsMade (task.Probe unit pitch layer grid i j k) solid answer = answer ≡ probed grid pitch layer i j k solid.facets
+IsMade (task.Probe unit pitch layer grid i j k) solid answer = answer ≡ probe_result grid pitch layer i j k solid.facets
 
 -- The program's outcome for a task and an input, by the order of its checks. The text has to read as facets, and for a box that
 -- is all. Else the mesh has to be closed, and then the grid and the voxel decide.

@@ -1,8 +1,9 @@
 -- What a run promises, by what is left of its source and what its sink holds.
-use Rattle.std.specs.Prelude.{◌≡◌, ◌≢◌, ◌⊎◌, ℕ, ◌≤◌, Bool, List, MatchResult, Result, Err, IfErr, IfSome, Ok, OnOk, length, true}
+use Rattle.std.specs.Prelude.{◌≡◌, ◌≢◌, ◌⊎◌, ℕ, ◌≤◌, Bool, List, MatchResult, Option, Result, Err, IfErr, IfSome, Ok, OnOk, length, true}
 use Rattle.std.specs.Io.KnownBytes.{Appends, IsAtEnd, Keeps}
 use Rattle.devices.specs.Devices.{AppendsFirst, Fails}
 use Rattle.devices.specs.Transcript.{Transcript}
+use Rattle.mesh_reading.specs.Loading.{IsInput}
 use Rattle.task_words.specs.declared.task.Task.{Task}
 use Rattle.stlslice.specs.declared.run_fault.RunFault.{RunFault}
 use Rattle.stlslice.specs.declared.run_fault.RunFault.TheVariants as cause
@@ -18,14 +19,19 @@ IsRunFault t input cause.Memory = Unit {0}
 IsRunFault t input (cause.Write written) = Unit {0}
 IsRunFault t input (cause.Outside columns rows layers) = IsOutcome t input (Err (cause.Outside columns rows layers))
 
+-- `says` holds of an input, which is all that the source had if that is known
+abbrev pub OfInput : Option (List ℕ) → (List ℕ → Type 0) → Type 0
+OfInput known says = (input : List ℕ) × IsInput known input × says input
+
+-- What a run promises. Where the source is unknown, a known sink still has the outcome's text of some input, or its first bytes.
 pub record IsRun {T : Type 0} (t : Task) (result : Result T RunFault) (source sink : Transcript) (is_settled : Bool) : Type 0 where
   -- all was read, also if the run ends with a fault of its text, unless reading or memory failed
   pub whole : result ≢ Err cause.Read → result ≢ Err cause.Memory → IsAtEnd source.new
   -- it succeeds only if exactly the text of the outcome was written and flushed
   pub flushed : OnOk result (is_settled ≡ true)
-  pub ok : OnOk result (IfSome source.old (λ input. (text : List ℕ) × IsOutcome t input (Ok text) × Appends sink.old sink.new text))
+  pub ok : OnOk result (OfInput source.old (λ input. (text : List ℕ) × IsOutcome t input (Ok text) × Appends sink.old sink.new text))
   -- a fault of the input is its outcome, and the others come from a device or from memory
-  pub fault : IfErr result (λ f. IfSome source.old (λ input. IsRunFault t input f))
+  pub fault : IfErr result (λ f. OfInput source.old (λ input. IsRunFault t input f))
   -- if the outcome is a fault, no other fault of the input comes, and the run does not succeed
   pub only : IfSome source.old (λ input. (own : RunFault) → IsOutcome t input (Err own)
       → MatchResult result (λ _. ⊥) (λ f. (f ≡ own) ⊎ (f ≡ cause.Read) ⊎ (f ≡ cause.Memory)))
@@ -35,6 +41,6 @@ pub record IsRun {T : Type 0} (t : Task) (result : Result T RunFault) (source si
   pub unread : result ≡ Err cause.Read → Fails source.failed_before source.failed
   pub unwritten : (written : ℕ) → result ≡ Err (cause.Write written) → Fails sink.failed_before sink.failed
   -- after a fault of the output its first `written` bytes went out; after any other fault nothing did
-  pub first : (written : ℕ) → result ≡ Err (cause.Write written) → IfSome source.old (λ input.
+  pub first : (written : ℕ) → result ≡ Err (cause.Write written) → OfInput source.old (λ input.
       (text : List ℕ) × IsOutcome t input (Ok text) × (written ≤ length text) × AppendsFirst sink.old sink.new written text)
   pub nothing : IfErr result (λ f. ((written : ℕ) → f ≢ cause.Write written) → Keeps sink.old sink.new)

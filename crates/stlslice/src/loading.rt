@@ -5,7 +5,9 @@ ghost use Rattle.geometry.specs.declared.limits.TheConstants.{FACET_LIMIT};
 ghost use Rattle.mesh_weld.specs.Balance.{IsBalanced};
 ghost use Rattle.mesh_weld.specs.Solid.{solid_of};
 ghost use Rattle.stl_text.specs.Text.{Reads};
-ghost use Rattle.stlslice.specs.Loading.{IsLoadFault};
+ghost use Rattle.mesh_reading.specs.Loading.{IsLoadFault};
+ghost use Rattle.mesh_reading.specs.declared.read_fault.ReadFault.{ReadFault};
+ghost use Rattle.stlslice.specs.RunFault.{of_read};
 ghost use Rattle.stlslice.specs.declared.run_fault.RunFault.TheVariants.{Memory};
 
 use crate::run_fault::RunFault;
@@ -28,7 +30,7 @@ pub fn load<A: Allocator + Copy + Send + Sync>(
 ) -> Result<Solid<A>, RunFault>
     ensures ok { IfOk result (λ solid. (facets : List Facet) × Reads FACET_LIMIT unit bytes.now facets
         × IsBalanced facets × (solid ≡ solid_of facets)) }
-    ensures fault { IfErr result (IsLoadFault unit bytes.now) }
+    ensures fault { IfErr result (λ fault. (cause : ReadFault) × (fault ≡ of_read cause) × IsLoadFault unit bytes.now cause) }
     ensures only { (facets : List Facet) → Reads FACET_LIMIT unit bytes.now facets → IsBalanced facets
         → IfErr result (λ fault. fault ≡ Memory) }
 {

@@ -25,7 +25,7 @@ use Rattle.clap.specs.Values.{kind_of}
 use Rattle.clap.specs.declared.builder.command.Command.{Command}
 use Rattle.clap.specs.declared.error.Error.{Error}
 use Rattle.clap.specs.declared.error.kind.ErrorKind.TheVariants.{OutOfMemory}
-use Rattle.task_words.specs.Words.{Answers, IsFaultOf, IsOptionFault, IsTaskOf, StandFor, first_fault}
+use Rattle.task_words.specs.Words.{Answers, IsFaultOfWords, IsOptionFault, IsTaskOf, StandFor, first_fault}
 use Rattle.task_words.specs.declared.task.Task.{Task}
 use Rattle.task_words.specs.declared.word_fault.WordFault.{WordFault}
 use Rattle.task_words.specs.declared.word_fault.WordFault.TheVariants as fault
@@ -158,7 +158,7 @@ pub stands : (words : List Text) (uses : List Use) (r : Result Task WordFault) �
 stands words uses (Ok t) is h = (uses, is, h.0, h.1)
 stands words uses (Err f) is h = h
 
-told_fault : (words : List Text) (uses : List Use) (f : WordFault) → said options words ≡ gives uses → IsOptionFault f → first_fault uses ≡ Some f → IsFaultOf words f
+told_fault : (words : List Text) (uses : List Use) (f : WordFault) → said options words ≡ gives uses → IsOptionFault f → first_fault uses ≡ Some f → IsFaultOfWords words f
 told_fault words uses (fault.Refused refusal) is o h = absurd o
 told_fault words uses fault.Memory is o h = tt
 told_fault words uses (fault.Missing option) is o h = (uses, is, h)
@@ -170,7 +170,7 @@ told_fault words uses fault.BadDepth is o h = (uses, is, h)
 told_fault words uses (fault.WithoutPng option) is o h = (uses, is, h)
 
 pub tells : (words : List Text) (uses : List Use) (r : Result Task WordFault) → said options words ≡ gives uses
-    → IfErr r IsOptionFault → IfErr r (λ f. first_fault uses ≡ Some f) → IfErr r (IsFaultOf words)
+    → IfErr r IsOptionFault → IfErr r (λ f. first_fault uses ≡ Some f) → IfErr r (IsFaultOfWords words)
 tells words uses (Ok t) is o h = h
 tells words uses (Err f) is o h = told_fault words uses f is o h
 
@@ -181,7 +181,7 @@ Becomes e f = (kind_of e ≡ OutOfMemory → f ≡ fault.Memory) × (kind_of e �
 no_other : (e : Error) (f : WordFault) → Becomes e f → f ≢ fault.Memory → f ≡ fault.Refused e
 no_other e f b away = b.1 (λ h. away (b.0 h))
 
-pub refused : (words : List Text) (e : Error) (f : WordFault) → Becomes e f → HasKind (fault_of command_app words) e → IsFaultOf words f
+pub refused : (words : List Text) (e : Error) (f : WordFault) → Becomes e f → HasKind (fault_of command_app words) e → IsFaultOfWords words f
 refused words e (fault.Refused refusal) b kinds =
     let here : kind_of e ≢ OutOfMemory = λ h. let bad = b.0 h in cc in
     let same : refusal ≡ e = let is = b.1 here in cc in
@@ -197,5 +197,5 @@ refused words e fault.BadDepth b kinds = let bad = no_other e _ b (λ h. cc) in 
 refused words e (fault.WithoutPng option) b kinds = let bad = no_other e _ b (λ h. cc) in cc
 
 pub refused_by : (command : Command) (words : List Text) (e : Error) (f : WordFault) → app_of command ≡ command_app
-    → (is_simple_and_free (app_of command) ≡ true → HasKind (fault_of (app_of command) words) e) → Becomes e f → IsFaultOf words f
+    → (is_simple_and_free (app_of command) ≡ true → HasKind (fault_of (app_of command) words) e) → Becomes e f → IsFaultOfWords words f
 refused_by command words e f is kinds b = refused words e f b (subst (λ a. HasKind (fault_of a words) e) is (kinds (ap is_simple_and_free is ∙ simple)))

@@ -15,13 +15,13 @@ use Rattle.std.proofs.lemmas.Str.Parse.{IsNumeralModel, digits_value_short, nume
 use Rattle.std.proofs.lemmas.Str.Pattern.{IsSplitOnceResult, split_once_first}
 use Rattle.std.specs.Result.{result_ok}
 use Rattle.clap.proofs.WalkLemmas.{both}
-use Rattle.geometry.specs.Point.{IsMeshPoint}
+use Rattle.geometry.specs.Point.{IsMeshPoint, Point}
 use Rattle.clap.specs.Lexer.{without_minus}
 use Rattle.clap.specs.Matches.{ReadsOne}
 use Rattle.task_words.specs.Options.{is_number, is_numeral}
 use Rattle.task_words.specs.Words.{number_of}
 use Rattle.task_words.proofs.Matching.{minus_refused}
-use Rattle.task_words.specs.Texts.{StepsTo, ReadsField, at_end, fields_of, given_at, grid_in, is_near, point_at, point_of, voxel_in, count_in, count_then, coordinate_in, coordinate_then, fields, is_short_number}
+use Rattle.task_words.specs.Texts.{StepsTo, ReadsField, at_end, fields_of, given_at, grid_in, is_near, point_in_range, voxel_in, count_in, count_then, coordinate_in, coordinate_then, fields, is_short_number}
 
 -- ---- fields
 
@@ -203,7 +203,7 @@ stripped text (Some x) h d e = ap (λ s. s.now) e ∙ sym (ap without_minus (str
 pub grid_read : (text : List ℕ) (f g h i j k : List (List ℕ)) (columns rows layers : ℕ) (x y : ℤ) (z : Option ℤ)
     → ReadsField count_in (fields text) (Some columns) f → ReadsField count_in f (Some rows) g → ReadsField count_in g (Some layers) h
     → ReadsField coordinate_in h (Some x) i → ReadsField coordinate_in i (Some y) j → ReadsField coordinate_in j z k
-    → grid_in text ≡ option_and_then (λ w. at_end k (option_and_then (λ origin. Some (given_at columns rows layers origin)) (point_at x y w))) z
+    → grid_in text ≡ option_and_then (λ w. at_end k (option_and_then (λ origin. Some (given_at columns rows layers origin)) (point_in_range x y w))) z
 grid_read text f g h i j k columns rows layers x y z a b c d e last =
     counts (fields text) f (Some columns) _ a ∙ counts f g (Some rows) _ b ∙ counts g h (Some layers) _ c
     ∙ coordinates h i (Some x) _ d ∙ coordinates i j (Some y) _ e ∙ coordinates j k z _ last
@@ -241,13 +241,13 @@ pub none_left : {T : Type 0} (rest : Option (Bor (List ℕ))) (found : Option T)
 none_left None found e = refl
 none_left (Some text) found e = cc
 
-pub point_is : (x y z : ℤ) → IsMeshPoint (record { x = x; y = y; z = z }) → point_at x y z ≡ Some (record { x = x; y = y; z = z })
+pub point_is : (x y z : ℤ) → IsMeshPoint (record { x = x; y = y; z = z }) → point_in_range x y z ≡ Some (record { x = x; y = y; z = z })
 point_is x y z h = rw (le-leb _ _ h.0.at_most, le-leb _ _ h.1.at_most, le-leb _ _ h.2.at_most) refl
 
-pub no_point : (x y z : ℤ) → (IsMeshPoint (record { x = x; y = y; z = z }) → ⊥) → point_at x y z ≡ None
+pub no_point : (x y z : ℤ) → (IsMeshPoint (record { x = x; y = y; z = z }) → ⊥) → point_in_range x y z ≡ None
 no_point x y z far = go (is_near x) (is_near y) (is_near z) refl refl refl
   where
-    go : (a b c : Bool) → is_near x ≡ a → is_near y ≡ b → is_near z ≡ c → cond (a && (b && c)) (Some (point_of x y z)) None ≡ None
+    go : (a b c : Bool) → is_near x ≡ a → is_near y ≡ b → is_near z ≡ c → cond {A = Option Point} (a && (b && c)) (Some (record { x = x; y = y; z = z })) None ≡ None
     go true true true e f g = absurd (far (record { at_most = leb-true _ _ e }, record { at_most = leb-true _ _ f }, record { at_most = leb-true _ _ g }))
     go true true false e f g = refl
     go true false c e f g = refl

@@ -84,11 +84,9 @@ at_end (field ∷ rest) found = None
 abbrev pub is_near : ℤ → Bool
 is_near z = nat_le (unsigned_abs z) COORDINATE_LIMIT
 
-abbrev pub point_of : ℤ → ℤ → ℤ → Point
-point_of x y z = record { x = x; y = y; z = z }
-
-abbrev pub point_at : ℤ → ℤ → ℤ → Option Point
-point_at x y z = if is_near x && (is_near y && is_near z) then Some (point_of x y z) else None
+-- the point with these coordinates, if they are in range
+abbrev pub point_in_range : ℤ → ℤ → ℤ → Option Point
+point_in_range x y z = if is_near x && (is_near y && is_near z) then Some (record { x = x; y = y; z = z }) else None
 
 abbrev pub given_at : ℕ → ℕ → ℕ → Point → Given
 given_at columns rows layers origin = record { columns = columns; rows = rows; layers = layers; origin = origin }
@@ -98,7 +96,7 @@ abbrev pub grid_in : Text → Option Given
 grid_in text =
     count_then (fields text) (λ columns f. count_then f (λ rows g. count_then g (λ layers h.
     coordinate_then h (λ x i. coordinate_then i (λ y j. coordinate_then j (λ z k.
-    at_end k (option_and_then (λ origin. Some (given_at columns rows layers origin)) (point_at x y z))))))))
+    at_end k (option_and_then (λ origin. Some (given_at columns rows layers origin)) (point_in_range x y z))))))))
 
 -- the column, row and layer of a text `I,J,K`
 abbrev pub voxel_in : Text → Option Voxel

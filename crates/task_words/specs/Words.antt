@@ -182,17 +182,17 @@ abbrev pub IsFirstFault : List Text → WordFault → Type 0
 IsFirstFault words first = (uses : List Use) × (said options words ≡ gives uses) × (first_fault uses ≡ Some first)
 
 -- the fault is the one of the words, or an allocation failed
-abbrev pub IsFaultOf : List Text → WordFault → Type 0
-IsFaultOf words (fault.Refused refusal) =
+abbrev pub IsFaultOfWords : List Text → WordFault → Type 0
+IsFaultOfWords words (fault.Refused refusal) =
     (kind_of refusal ≢ OutOfMemory) × Answers (said options words) (asked_by (kind_of refusal))
-IsFaultOf words fault.Memory = ⊤
-IsFaultOf words (fault.Missing option) = IsFirstFault words (fault.Missing option)
-IsFaultOf words fault.BadRule = IsFirstFault words fault.BadRule
-IsFaultOf words fault.BadUnit = IsFirstFault words fault.BadUnit
-IsFaultOf words fault.BadGrid = IsFirstFault words fault.BadGrid
-IsFaultOf words fault.BadProbe = IsFirstFault words fault.BadProbe
-IsFaultOf words fault.BadDepth = IsFirstFault words fault.BadDepth
-IsFaultOf words (fault.WithoutPng option) = IsFirstFault words (fault.WithoutPng option)
+IsFaultOfWords words fault.Memory = ⊤
+IsFaultOfWords words (fault.Missing option) = IsFirstFault words (fault.Missing option)
+IsFaultOfWords words fault.BadRule = IsFirstFault words fault.BadRule
+IsFaultOfWords words fault.BadUnit = IsFirstFault words fault.BadUnit
+IsFaultOfWords words fault.BadGrid = IsFirstFault words fault.BadGrid
+IsFaultOfWords words fault.BadProbe = IsFirstFault words fault.BadProbe
+IsFaultOfWords words fault.BadDepth = IsFirstFault words fault.BadDepth
+IsFaultOfWords words (fault.WithoutPng option) = IsFirstFault words (fault.WithoutPng option)
 
 -- `--progress`, which is no part of the task
 abbrev pub is_progress_word : Text → Bool

@@ -6,7 +6,7 @@ ghost use Rattle.task_words.specs.Matches.{Holds, HoldsNumber};
 ghost use Rattle.task_words.specs.Options.{Text, Use, gives, is_given, said};
 ghost use Rattle.task_words.specs.Task.{IsInRange};
 ghost use Rattle.task_words.specs.WordFault.{IsNoMemoryRefusal};
-ghost use Rattle.task_words.specs.Words.{HasGrid, IsFaultOf, IsOptionFault, IsTaskOf, StandFor, depth_given, first_fault};
+ghost use Rattle.task_words.specs.Words.{HasGrid, IsFaultOfWords, IsOptionFault, IsTaskOf, StandFor, depth_given, first_fault};
 ghost use Rattle.task_words.specs.Words.{grid_given, is_progress_word, number_of, options, png_option_given, rule_given, told};
 ghost use Rattle.task_words.specs.Words.{unit_given, voxel_given, without_png};
 ghost use Rattle.task_words.specs.declared.word_fault.WordFault.TheVariants.{BadDepth, BadGrid, BadProbe, BadRule, BadUnit};
@@ -46,7 +46,7 @@ pub fn read_words(alloc: Global, words: &[String]) -> Result<Task, WordFault>
     ensures range { IfOk result IsInRange }
     ensures refused { IfErr result IsNoMemoryRefusal }
     ensures task { IfOk result (StandFor (map string_bytes words.now)) }
-    ensures fault { IfErr result (IsFaultOf (map string_bytes words.now)) }
+    ensures fault { IfErr result (IsFaultOfWords (map string_bytes words.now)) }
 {
     let matches = command(alloc)?.try_get_matches_from(words)?;
     task_of(&matches)

@@ -1,6 +1,6 @@
 //! Small closed meshes, by tables of corners and facets.
 ghost use Rattle.std.specs.Prelude.{◌≡◌, ◌++◌, IfOk, OnOk, flat_map};
-ghost use Rattle.test_meshes.specs.Parts.{corner, facet as facet_of, facets};
+ghost use Rattle.geometry.specs.Indexed.{indexed_facet, indexed_facets, indexed_point};
 
 use geometry::{Facet, Point};
 use std::alloc::{AllocError, Allocator};
@@ -144,7 +144,7 @@ pub const OCTAHEDRON: &[Part] = &[(
 
 /// The corner with a number. `Err` if there is none, or one out of range.
 fn corner(corners: &[[i32; 3]], number: u8) -> Result<Point, AllocError>
-    ensures { IfOk result (λ point. point ≡ corner corners.now number) }
+    ensures { IfOk result (λ point. point ≡ indexed_point corners.now number) }
 {
     let [x, y, z] = *corners.get(usize::from(number)).ok_or(AllocError)?;
     Point::new(x, y, z).ok_or(AllocError)
@@ -152,7 +152,7 @@ fn corner(corners: &[[i32; 3]], number: u8) -> Result<Point, AllocError>
 
 /// The facet with these corners. `Err` if one of them is missing or out of range.
 fn facet(corners: &[[i32; 3]], numbers: &[u8; 3]) -> Result<Facet, AllocError>
-    ensures { IfOk result (λ facet. facet ≡ facet_of corners.now numbers.now) }
+    ensures { IfOk result (λ facet. facet ≡ indexed_facet corners.now numbers.now) }
 {
     let [a, b, c] = *numbers;
     Ok(Facet::of(
@@ -165,7 +165,7 @@ fn facet(corners: &[[i32; 3]], numbers: &[u8; 3]) -> Result<Facet, AllocError>
 /// Adds the facets of a part to a list, in their order. `Err` only if an allocation failed, or the part has
 /// no such corner.
 pub fn push_facets<A: Allocator>(list: &mut Vec<Facet, A>, part: Part<'_>) -> Result<(), AllocError>
-    ensures { OnOk result (list.new.items ≡ list.old.items ++ facets part.entry.0.now part.entry.1.now) }
+    ensures { OnOk result (list.new.items ≡ list.old.items ++ indexed_facets part.entry.0.now part.entry.1.now) }
 {
     let (corners, facets) = part;
     for numbers in facets {
@@ -179,7 +179,7 @@ pub fn facets_of<A: Allocator + Copy>(
     alloc: A,
     parts: &[Part<'_>],
 ) -> Result<Vec<Facet, A>, AllocError>
-    ensures { IfOk result (λ list. list.items ≡ flat_map (λ part. facets part.0.now part.1.now) parts.now) }
+    ensures { IfOk result (λ list. list.items ≡ flat_map (λ part. indexed_facets part.0.now part.1.now) parts.now) }
 {
     let mut list = Vec::new(alloc);
     for part in parts {

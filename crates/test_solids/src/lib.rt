@@ -3,7 +3,7 @@
 
 ghost use Rattle.std.specs.Prelude.{◌≡◌, IfOk, flat_map};
 ghost use Rattle.mesh_weld.specs.Solid.{solid_of as solid_of_facets};
-ghost use Rattle.test_meshes.specs.Parts.{facets};
+ghost use Rattle.geometry.specs.Indexed.{indexed_facets};
 
 use geometry::Facet;
 use mesh_weld::{Solid, WeldFault, weld};
@@ -16,7 +16,7 @@ pub fn solid_of<A: Allocator + Copy + Send + Sync>(
     alloc: A,
     parts: &[Part<'_>],
 ) -> Result<Solid<A>, WeldFault>
-    ensures { IfOk result (λ solid. solid ≡ solid_of_facets (flat_map (λ part. facets part.0.now part.1.now) parts.now)) }
+    ensures { IfOk result (λ solid. solid ≡ solid_of_facets (flat_map (λ part. indexed_facets part.0.now part.1.now) parts.now)) }
 {
     welded(alloc, facets_of(alloc, parts)?)
 }

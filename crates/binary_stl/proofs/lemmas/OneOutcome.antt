@@ -6,7 +6,7 @@ use Rattle.std.proofs.lemmas.List.{same_lists}
 use Rattle.geometry.specs.Facet.{Facet}
 use Rattle.geometry.specs.Point.{Point}
 use Rattle.micro_num.specs.declared.unit.Unit.{Unit as LengthUnit}
-use Rattle.binary_stl.specs.Binary.{IsCornerAt, IsFacetAt, IsFaultOf, Reaches, Reads, axis_number, coordinate_at, coordinates_before, length_of}
+use Rattle.binary_stl.specs.Binary.{IsCornerAt, IsFacetAt, IsFaultOfBinary, Reaches, ReadsBinary, axis_number, coordinate_at, coordinates_before, length_of}
 use Rattle.binary_stl.specs.declared.binary_fault.Axis.{Axis}
 use Rattle.binary_stl.specs.declared.binary_fault.Axis.TheVariants.{X, Y, Z}
 use Rattle.binary_stl.specs.declared.binary_fault.BinaryFault.{BinaryFault}
@@ -31,14 +31,14 @@ same_facet unit bytes facet f g is js = λ i. record {
   c = same_corner unit bytes facet 2 f.c g.c is.third js.third i;
 }
 
-pub one_reading : (unit : LengthUnit) (bytes : List ℕ) (facets others : List Facet) → Reads unit bytes facets → Reads unit bytes others → facets ≡ others
+pub one_reading : (unit : LengthUnit) (bytes : List ℕ) (facets others : List Facet) → ReadsBinary unit bytes facets → ReadsBinary unit bytes others → facets ≡ others
 one_reading unit bytes facets others is js =
     same_lists facets others (is.count ∙ sym js.count)
     (λ k none inside. same_facet unit bytes k (slice_index_or facets k none) (slice_index_or others k none)
     (is.each k none inside) (js.each k none (omega (arith, is.count, js.count, inside))))
 
 -- ---- faults
-pub not_both : (unit : LengthUnit) (bytes : List ℕ) (facets : List Facet) (f : BinaryFault) → Reads unit bytes facets → IsFaultOf unit bytes f → ⊥
+pub not_both : (unit : LengthUnit) (bytes : List ℕ) (facets : List Facet) (f : BinaryFault) → ReadsBinary unit bytes facets → IsFaultOfBinary unit bytes f → ⊥
 not_both unit bytes facets fault.Ended is short = let form = is.form in omega (arith, form, short)
 not_both unit bytes facets (fault.Length n wanted found) is (whole, same, takes, there, other) =
     other (takes ∙ ap length_of same ∙ sym is.form ∙ sym there)
@@ -91,7 +91,7 @@ module _ (unit : LengthUnit) (bytes : List ℕ) (cause other : CoordinateFault) 
       same_cause : (p q : Result ℤ CoordinateFault) → p ≡ q → p ≡ Err cause → q ≡ Err other → cause ≡ other
       same_cause p q e is js = cc
 
-pub one_fault : (unit : LengthUnit) (bytes : List ℕ) (f g : BinaryFault) → IsFaultOf unit bytes f → IsFaultOf unit bytes g → f ≡ g
+pub one_fault : (unit : LengthUnit) (bytes : List ℕ) (f g : BinaryFault) → IsFaultOfBinary unit bytes f → IsFaultOfBinary unit bytes g → f ≡ g
 one_fault unit bytes fault.Ended fault.Ended is js = refl
 one_fault unit bytes fault.Ended (fault.Length n wanted found) is (whole, same, js, at, other) = absurd (omega (arith, is, whole))
 one_fault unit bytes fault.Ended (fault.TooMany n) is (form, js, many) = absurd (omega (arith, is, form))

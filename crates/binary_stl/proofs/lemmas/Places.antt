@@ -9,7 +9,7 @@ use Rattle.geometry.specs.Facet.{Facet, facet_with}
 use Rattle.geometry.specs.Point.{Point, origin}
 use Rattle.geometry.specs.declared.limits.TheConstants.{FACET_LIMIT}
 use Rattle.micro_num.specs.declared.unit.Unit.{Unit as LengthUnit}
-use Rattle.binary_stl.specs.Binary.{AreFirstFacets, IsBinary, IsCornerAt, IsFacetAt, IsFaultOf, axis_number, coordinate_at, coordinates_before, facet_count}
+use Rattle.binary_stl.specs.Binary.{AreFirstFacets, IsBinary, IsCornerAt, IsFacetAt, IsFaultOfBinary, axis_number, coordinate_at, coordinates_before, facet_count}
 use Rattle.binary_stl.specs.Reading.{IsCornerFault, IsFacetFault}
 use Rattle.binary_stl.specs.declared.binary_fault.Axis.{Axis}
 use Rattle.binary_stl.specs.declared.binary_fault.Axis.TheVariants.{X, Y, Z}
@@ -110,7 +110,7 @@ facet_fault unit bytes facet corner fault.Memory few earlier none = absurd none
 
 pub first_fault : (unit : LengthUnit) (bytes : List ℕ) (facets : List Facet) (f : BinaryFault) (m : ℕ) → length facets ≡ m
     → IsBinary bytes → facet_count bytes ≤ FACET_LIMIT → m < facet_count bytes
-    → AreFirstFacets unit bytes facets → IsFacetFault unit bytes m f → IsFaultOf unit bytes f
+    → AreFirstFacets unit bytes facets → IsFacetFault unit bytes m f → IsFaultOfBinary unit bytes f
 first_fault unit bytes facets (fault.Number cause n k axis) m count form few inside each (same, few_k, before, at) = (
   record {
     form = form;

@@ -8,7 +8,7 @@ use Rattle.geometry.specs.Facet.{Facet, facet_with}
 use Rattle.geometry.specs.Point.{Point}
 use Rattle.geometry.specs.declared.limits.TheConstants.{FACET_LIMIT}
 use Rattle.micro_num.specs.declared.unit.Unit.{Unit as LengthUnit}
-use Rattle.binary_stl.specs.Binary.{IsBinary, IsCornerAt, IsFacetAt, IsFaultOf, Reads, axis_number, coordinate_at, coordinates_before, facet_count, length_of}
+use Rattle.binary_stl.specs.Binary.{IsBinary, IsCornerAt, IsFacetAt, IsFaultOfBinary, ReadsBinary, axis_number, coordinate_at, coordinates_before, facet_count, length_of}
 use Rattle.binary_stl.specs.declared.binary_fault.Axis.{Axis}
 use Rattle.binary_stl.specs.declared.binary_fault.Axis.TheVariants.{X, Y, Z}
 use Rattle.binary_stl.specs.declared.binary_fault.BinaryFault.{BinaryFault}
@@ -82,7 +82,7 @@ module _ (unit : LengthUnit) (bytes : List ℕ) where
       λ i. coordinate_at unit bytes (facet i) (corner i) (axis i)
 
   abbrev AFault : Type 0
-  AFault = (f : BinaryFault) × IsFaultOf unit bytes f
+  AFault = (f : BinaryFault) × IsFaultOfBinary unit bytes f
 
   -- the first number that stands for no coordinate
   number_fault : IsBinary bytes → facet_count bytes ≤ FACET_LIMIT → AFirst nth (9 * facet_count bytes) → AFault
@@ -133,7 +133,7 @@ module _ (unit : LengthUnit) (bytes : List ℕ) where
   }
 
   facets : IsBinary bytes → facet_count bytes ≤ FACET_LIMIT → ((i : ℕ) → i < 9 * facet_count bytes → IsOk (nth i))
-      → (facets : List Facet) × Reads unit bytes facets
+      → (facets : List Facet) × ReadsBinary unit bytes facets
   facets form few all = (
     map facet_of (range_with_len 0 (facet_count bytes)),
     record {
@@ -149,7 +149,7 @@ module _ (unit : LengthUnit) (bytes : List ℕ) where
   )
 
   abbrev Outcome : Type 0
-  Outcome = ((facets : List Facet) × Reads unit bytes facets) ⊎ AFault
+  Outcome = ((facets : List Facet) × ReadsBinary unit bytes facets) ⊎ AFault
 
   pub either : Outcome
   either = by_length (cases_lt (length bytes) FACETS_START)

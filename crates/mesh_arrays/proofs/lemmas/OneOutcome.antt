@@ -5,7 +5,8 @@ use Rattle.std.proofs.lemmas.Bool.{cases_order}
 use Rattle.std.proofs.lemmas.List.{get_or-take, length-take-le}
 use Rattle.geometry.specs.Facet.{Facet}
 use Rattle.geometry.specs.Point.{IsMeshPoint}
-use Rattle.mesh_arrays.specs.Arrays.{IsCorner, IsFaultOf, IsOneMore, Reaches, Spells, Stands, point_at, triangle_at}
+use Rattle.geometry.specs.Indexed.{indexed_point}
+use Rattle.mesh_arrays.specs.Arrays.{IsCorner, IsFaultOfArrays, IsOneMore, Reaches, ReadsArrays, Stands, triangle_at}
 use Rattle.mesh_arrays.specs.declared.array_fault.ArrayFault.{ArrayFault}
 use Rattle.mesh_arrays.specs.declared.array_fault.ArrayFault.TheVariants as fault
 
@@ -63,13 +64,13 @@ not_one_more points triangles t u p more r refuted =
     let lt : u < t = omega (arith, more.number, r.few) in
     is_no_facet points (triangle_at triangles u) p r.stands refuted (of_first (All (IsCorner points)) triangles t u [] few lt more.before)
 
-not_in_range : (points : List (List ℤ)) (index : ℕ) → (IsMeshPoint (point_at points index) → ⊥) → IsNone points index
+not_in_range : (points : List (List ℤ)) (index : ℕ) → (IsMeshPoint (indexed_point points index) → ⊥) → IsNone points index
 not_in_range points index out is = out is.in_range
 
 not_missing : (points : List (List ℤ)) (p q : ℕ) → p ≡ q → length points ≤ p → q < length points → ⊥
 not_missing points p q e past inside = omega (arith, e, past, inside)
 
-pub one_fault : (points : List (List ℤ)) (triangles : List (List ℕ)) (f g : ArrayFault) → IsFaultOf points triangles f → IsFaultOf points triangles g → f ≡ g
+pub one_fault : (points : List (List ℤ)) (triangles : List (List ℕ)) (f g : ArrayFault) → IsFaultOfArrays points triangles f → IsFaultOfArrays points triangles g → f ≡ g
 one_fault points triangles (fault.Missing t p) (fault.Missing u q) (r, past) (s, beyond) =
     let same : (t ≡ u) × (p ≡ q) = one_place points triangles t u p q r (missing_none points p past) s (missing_none points q beyond) in
     λ i. fault.Missing (same.0 i) (same.1 i)
@@ -92,14 +93,14 @@ one_fault points triangles (fault.TooMany t) (fault.TooMany u) more one = ap fau
 one_fault points triangles (fault.TooMany t) fault.Memory is js = absurd js
 one_fault points triangles fault.Memory g is js = absurd is
 
-pub one_reading : (points : List (List ℤ)) (triangles : List (List ℕ)) (facets others : List Facet) → Spells points triangles facets → Spells points triangles others
+pub one_reading : (points : List (List ℤ)) (triangles : List (List ℕ)) (facets others : List Facet) → ReadsArrays points triangles facets → ReadsArrays points triangles others
     → facets ≡ others
 one_reading points triangles facets others is js = is.each ∙ sym js.each
 
-no_place : (points : List (List ℤ)) (triangles : List (List ℕ)) (facets : List Facet) (t p : ℕ) → Spells points triangles facets → Reaches points triangles t p → IsNone points p → ⊥
+no_place : (points : List (List ℤ)) (triangles : List (List ℕ)) (facets : List Facet) (t p : ℕ) → ReadsArrays points triangles facets → Reaches points triangles t p → IsNone points p → ⊥
 no_place points triangles facets t p is r refuted = is_no_facet points (triangle_at triangles t) p r.stands refuted (is.corners t [] r.inside)
 
-pub not_both : (points : List (List ℤ)) (triangles : List (List ℕ)) (facets : List Facet) (f : ArrayFault) → Spells points triangles facets → IsFaultOf points triangles f → ⊥
+pub not_both : (points : List (List ℤ)) (triangles : List (List ℕ)) (facets : List Facet) (f : ArrayFault) → ReadsArrays points triangles facets → IsFaultOfArrays points triangles f → ⊥
 not_both points triangles facets (fault.Missing t p) is (r, past) = no_place points triangles facets t p is r (missing_none points p past)
 not_both points triangles facets (fault.OutOfRange t p) is (r, inside, out) = no_place points triangles facets t p is r (not_in_range points p out)
 not_both points triangles facets (fault.TooMany t) is more =

@@ -7,7 +7,8 @@ use Rattle.exact_int.specs.Bounds.{IsAtMost}
 use Rattle.geometry.specs.Facet.{Facet}
 use Rattle.geometry.specs.Point.{IsMeshPoint, Point}
 use Rattle.geometry.specs.declared.limits.TheConstants.{COORDINATE_LIMIT, FACET_LIMIT}
-use Rattle.mesh_arrays.specs.Arrays.{IsCorner, IsFaultOf, Reaches, Spells, Stands, facet_of, point_at, triangle_at}
+use Rattle.geometry.specs.Indexed.{indexed_facet, indexed_point}
+use Rattle.mesh_arrays.specs.Arrays.{IsCorner, IsFaultOfArrays, Reaches, ReadsArrays, Stands, triangle_at}
 use Rattle.mesh_arrays.specs.declared.array_fault.ArrayFault.{ArrayFault}
 use Rattle.mesh_arrays.specs.declared.array_fault.ArrayFault.TheVariants as fault
 
@@ -36,12 +37,12 @@ mesh_point p = by (coordinate p.x) (coordinate p.y) (coordinate p.z)
 
 -- why an index is no corner
 abbrev Refused : List (List ℤ) → ℕ → Type 0
-Refused points index = (length points ≤ index) ⊎ ((index < length points) × (IsMeshPoint (point_at points index) → ⊥))
+Refused points index = (length points ≤ index) ⊎ ((index < length points) × (IsMeshPoint (indexed_point points index) → ⊥))
 
 corner : (points : List (List ℤ)) (index : ℕ) → IsCorner points index ⊎ Refused points index
-corner points index = by (below_or_not (length points) index) (mesh_point (point_at points index))
+corner points index = by (below_or_not (length points) index) (mesh_point (indexed_point points index))
   where
-    by : (length points ≤ index) ⊎ (index < length points) → IsMeshPoint (point_at points index) ⊎ (IsMeshPoint (point_at points index) → ⊥)
+    by : (length points ≤ index) ⊎ (index < length points) → IsMeshPoint (indexed_point points index) ⊎ (IsMeshPoint (indexed_point points index) → ⊥)
         → IsCorner points index ⊎ Refused points index
     by (inl past) p = inr (inl past)
     by (inr inside) (inl is) = inl (record { there = inside; in_range = is })
@@ -74,7 +75,7 @@ all_corners points corners = by (first_corners points corners (length corners) (
     by (inr found) = inr found
 
 abbrev AFault : List (List ℤ) → List (List ℕ) → Type 0
-AFault points triangles = (f : ArrayFault) × IsFaultOf points triangles f
+AFault points triangles = (f : ArrayFault) × IsFaultOfArrays points triangles f
 
 fault_at : (points : List (List ℤ)) (triangles : List (List ℕ)) (t index : ℕ) → Reaches points triangles t index → Refused points index → AFault points triangles
 fault_at points triangles t index r (inl past) = (fault.Missing t index, (r, past))
@@ -101,7 +102,7 @@ first_triangles points triangles (suc n) few read =
         inl (subst (λ k. All (All (IsCorner points)) (take k triangles)) (add-one n) more)
 
 abbrev Outcome : List (List ℤ) → List (List ℕ) → Type 0
-Outcome points triangles = ((facets : List Facet) × Spells points triangles facets) ⊎ AFault points triangles
+Outcome points triangles = ((facets : List Facet) × ReadsArrays points triangles facets) ⊎ AFault points triangles
 
 pub either : (points : List (List ℤ)) (triangles : List (List ℕ)) → Outcome points triangles
 either points triangles = by (below_or_not (length triangles) FACET_LIMIT)
@@ -109,7 +110,7 @@ either points triangles = by (below_or_not (length triangles) FACET_LIMIT)
     few : length triangles ≤ FACET_LIMIT → All (All (IsCorner points)) (take (length triangles) triangles) ⊎ AFault points triangles → Outcome points triangles
     few read (inr found) = inr found
     few read (inl all) = inl (
-      map (facet_of points) triangles,
+      map (indexed_facet points) triangles,
       record {
         few = read;
         corners = subst (All (All (IsCorner points))) (take_all (length triangles) triangles (omega arith)) all;

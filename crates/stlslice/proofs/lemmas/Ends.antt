@@ -17,7 +17,7 @@ use Rattle.mesh_reading.specs.declared.read_fault.ReadFault.TheVariants as read
 use Rattle.stlslice.specs.declared.run_fault.RunFault.{RunFault}
 use Rattle.stlslice.specs.declared.run_fault.RunFault.TheVariants as fault
 use Rattle.stlslice.specs.Outcome.{IsOutcome, grid_for, slicing}
-use Rattle.stlslice.specs.Run.{IsRun, IsRunFault}
+use Rattle.stlslice.specs.Run.{IsRun, IsRunFault, OfInput}
 use Rattle.stlslice.specs.RunFault.{of_read}
 use Rattle.stlslice.specs.Writing.{IsUntouched, IsUnwritten}
 use Rattle.stlslice.proofs.lemmas.Faults.{IsReadingFault, IsWorkFault, by_input, failed_read, not_written}
@@ -25,7 +25,7 @@ use Rattle.stlslice.proofs.lemmas.Slicing.{slicing_there}
 use Rattle.stlslice.specs.SlicedText.{sliced_text}
 use Rattle.stlslice.specs.declared.write.Output.{Output}
 use Rattle.std.proofs.lemmas.Result.{IfErr-at_err, IfErr-weaker, on_ok_weaker}
-use Rattle.stlslice.proofs.lemmas.Bytes.{each, of_input}
+use Rattle.stlslice.proofs.lemmas.Bytes.{each, of_input, of_some}
 use Rattle.stlslice.proofs.lemmas.OneAnswer.{one_outcome}
 
 -- nothing was written, or a part of the outcome was
@@ -141,10 +141,10 @@ failed_reading (Err x) t source sink settled f is known whole unread sound kept 
       nothing = λ _. kept.0;
     }
   where
-    run_fault : IsInputFault (IsReadingFault t) source.old f → IfSome source.old (λ input. IsRunFault t input (of_read f))
-    run_fault (inl e) = rw e (each source.old (λ input. IsRunFault t input fault.Read) (λ input. tt))
-    run_fault (inr (inl e)) = rw e (each source.old (λ input. IsRunFault t input fault.Memory) (λ input. tt))
-    run_fault (inr (inr h)) = of_input source.old h.0 (λ input. IsRunFault t input (of_read f)) h.1 h.2.0
+    run_fault : IsInputFault (IsReadingFault t) source.old f → OfInput source.old (λ input. IsRunFault t input (of_read f))
+    run_fault (inl e) = rw e (of_some source.old (λ input. IsRunFault t input fault.Read) (λ input. tt))
+    run_fault (inr (inl e)) = rw e (of_some source.old (λ input. IsRunFault t input fault.Memory) (λ input. tt))
+    run_fault (inr (inr h)) = (h.0, h.1, h.2.0)
 
     own : IsInputFault (IsReadingFault t) source.old f
         → IfSome source.old (λ input. (o : RunFault) → IsOutcome t input (Err o)
@@ -165,10 +165,10 @@ unready r t source sink settled is_made is_own f is reading own kept =
     (λ e. reading.unread (ap Err e)) (λ other. reading.sound (λ e. other (let same : f ≡ read.Read = cc in same))) kept
 
 run_faults : {T : Type 0} (r : Result T RunFault) (t : Task) (known : Option (List ℕ)) (input : List ℕ) (sink : Transcript) → IsInput known input
-    → IfErr r (IsRunEnd t input sink) → IfErr r (λ f. IfSome known (λ bytes. IsRunFault t bytes f))
+    → IfErr r (IsRunEnd t input sink) → IfErr r (λ f. OfInput known (λ bytes. IsRunFault t bytes f))
 run_faults (Ok x) t known input sink is err = tt
-run_faults (Err f) t known input sink is (inl h) = of_input known input (λ bytes. IsRunFault t bytes f) is h.0.0
-run_faults (Err f) t known input sink is (inr h) = rw h.2.1 (each known (λ bytes. IsRunFault t bytes (fault.Write h.2.0)) (λ bytes. tt))
+run_faults (Err f) t known input sink is (inl h) = (input, is, h.0.0)
+run_faults (Err f) t known input sink is (inr h) = (input, is, rw h.2.1 tt)
 
 has_read : {T : Type 0} (r : Result T RunFault) (t : Task) (input : List ℕ) (sink : Transcript) → IfErr r (IsRunEnd t input sink) → r ≡ Err fault.Read → ⊥
 has_read r t input sink err e = by_end (IfErr-at_err _ e err)
@@ -198,7 +198,7 @@ has_run : {T : Type 0} (r : Result T RunFault) (t : Task) (input : List ℕ) (so
 has_run r t input source sink settled is whole sound flushed ok same err = record {
   whole = λ _ _. whole;
   flushed = flushed;
-  ok = on_ok_weaker r (of_input source.old input (λ bytes. (text : List ℕ) × IsOutcome t bytes (Ok text) × Appends sink.old sink.new text) is) ok;
+  ok = on_ok_weaker r (λ out. (input, is, out)) ok;
   fault = run_faults r t source.old input sink is err;
   only = of_input source.old input (λ bytes. (own : RunFault) → IsOutcome t bytes (Err own) → IsRefusal r own) is
       (refused r t input sink.old sink.new sink ok err);
@@ -206,9 +206,7 @@ has_run r t input source sink settled is whole sound flushed ok same err = recor
   sink_sound = sound_end r t input sink same err;
   unread = λ e. absurd (has_read r t input sink err e);
   unwritten = failed_once r t input sink err;
-  first = λ written e. of_input source.old input
-      (λ bytes. (text : List ℕ) × IsOutcome t bytes (Ok text) × (written ≤ length text) × AppendsFirst sink.old sink.new written text)
-      is (first_end t input sink written (IfErr-at_err _ e err));
+  first = λ written e. (input, is, first_end t input sink written (IfErr-at_err _ e err));
   nothing = wrote_nothing r t input sink err;
 }
 

@@ -9,26 +9,17 @@ use Rattle.raster.specs.Grid.{Grid}
 use Rattle.task_words.specs.declared.task.Given.{Given}
 use Rattle.task_words.specs.declared.task.Task.{Task}
 use Rattle.task_words.specs.declared.task.Task.TheVariants as task
-use Rattle.mesh_reading.specs.Loading.{IsInputFault, IsMisread, IsSolidOf, IsTextExtent}
-use Rattle.mesh_reading.specs.Loading as reading
+use Rattle.mesh_reading.specs.Loading.{IsInputFault, IsLoadFault, IsMisread, IsSolidOf, IsTextExtent}
 use Rattle.mesh_reading.specs.declared.extent.Extent.{Extent}
 use Rattle.mesh_reading.specs.declared.read_fault.ReadFault.{ReadFault}
 use Rattle.mesh_reading.specs.declared.read_fault.ReadFault.TheVariants as read
 use Rattle.stlslice.specs.declared.run_fault.RunFault.{RunFault}
 use Rattle.stlslice.specs.declared.run_fault.RunFault.TheVariants as fault
-use Rattle.stlslice.specs.Outcome.{IsMade, IsOutcome, boxed, closed, grid_for, is_box, line_text, misread, open_mesh, outside, probed_text, unit_of}
+use Rattle.stlslice.specs.Outcome.{IsMade, IsOutcome, boxed, closed, grid_for, is_box, line_text, misread, open_mesh, probed_text, unit_of}
 use Rattle.stlslice.specs.RunFault.{of_read}
-use Rattle.stlslice.specs.Loading.{IsLoadFault}
 use Rattle.stlslice.specs.Run.{IsRunFault}
 
 -- Faults of reading, as a run answers them.
-
-pub load_fault : (unit : LengthUnit) (bytes : List ℕ) (f : ReadFault) → reading.IsLoadFault unit bytes f → IsLoadFault unit bytes (of_read f)
-load_fault unit bytes read.Read h = h
-load_fault unit bytes (read.Stl cause) h = h
-load_fault unit bytes (read.Weld (weld.Open from to there back)) h = h
-load_fault unit bytes (read.Weld weld.Memory) h = absurd h
-load_fault unit bytes read.Memory h = h
 
 pub failed_read : (f : ReadFault) → of_read f ≡ fault.Read → f ≡ read.Read
 failed_read read.Read e = refl
@@ -63,7 +54,7 @@ box_there unit input extent line from is =
     boxed from.0 from.1 refl (rw is (ap (λ (e : Extent). Ok (line_text e.count e.corners)) from.2))
 
 -- where a text is no closed mesh, its fault is the outcome of a task that needs one
-pub unloaded : (t : Task) (input : List ℕ) (f : ReadFault) → is_box t ≡ false → reading.IsLoadFault (unit_of t) input f
+pub unloaded : (t : Task) (input : List ℕ) (f : ReadFault) → is_box t ≡ false → IsLoadFault (unit_of t) input f
     → IsReadingFault t input f
 unloaded t input read.Read other h = absurd h
 unloaded t input (read.Stl cause) other h = (misread cause h refl, (λ e. cc), (λ w e. cc))
@@ -100,10 +91,11 @@ probed_there unit pitch layer given i j k input solid g answer s placed is =
 -- so is its fault, unless memory is short
 pub probed_fault : (unit : LengthUnit) (pitch layer : ℕ) (given : Option Given) (i j k : ℕ) (input : List ℕ) (solid : Solid) (g : Grid)
     (f : RunFault) → IsSolidOf unit input solid → grid_for given pitch layer solid.facets ≡ Ok g
-    → (f ≡ fault.Memory) ⊎ (f ≡ outside g) × (Err f ≡ probed_text i j k solid.facets g)
+    → (f ≡ fault.Memory) ⊎ (f ≡ fault.Outside g.columns g.rows g.layers) × (Err f ≡ probed_text i j k solid.facets g)
     → IsWorkFault (task.Probe unit pitch layer given i j k) input f
 probed_fault unit pitch layer given i j k input solid g f s placed (inl is) = rw is (tt, (λ e. cc), (λ w e. cc))
 probed_fault unit pitch layer given i j k input solid g f s placed (inr h) =
-    let said : Err (outside g) ≡ probed_text i j k solid.facets g =
+    let own : RunFault = fault.Outside g.columns g.rows g.layers in
+    let said : Err own ≡ probed_text i j k solid.facets g =
     subst (λ (x : RunFault). Err x ≡ probed_text i j k solid.facets g) h.0 h.1 in
-    rw h.0 (probed_there unit pitch layer given i j k input solid g (Err (outside g)) s placed said, (λ e. cc), (λ w e. cc))
+    rw h.0 (probed_there unit pitch layer given i j k input solid g (Err own) s placed said, (λ e. cc), (λ w e. cc))

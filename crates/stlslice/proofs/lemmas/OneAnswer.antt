@@ -17,7 +17,7 @@ use Rattle.stlslice.specs.declared.run_fault.RunFault.{RunFault}
 use Rattle.stlslice.specs.declared.run_fault.RunFault.TheVariants as fault
 use Rattle.stlslice.specs.SlicedText.{output_of}
 use Rattle.stlslice.specs.declared.write.Output.TheVariants as output
-use Rattle.stlslice.specs.Outcome.{IsMade, IsOutcome, box_text, boxed, closed, is_box, misread, open_mesh, probed, sliced, unit_of}
+use Rattle.stlslice.specs.Outcome.{IsMade, IsOutcome, box_text, boxed, closed, is_box, misread, open_mesh, probe_result, sliced, unit_of}
 
 one_made : (t : Task) (solid : Solid) (answer other : Result (List ℕ) RunFault) → IsMade t solid answer → IsMade t solid other → answer ≡ other
 one_made (task.Box unit) solid answer other h k = absurd h
@@ -77,7 +77,7 @@ a_made (task.Box unit) solid h = cc
 a_made (task.Slice unit pitch layer rule workers report grid) solid h = (sliced grid pitch layer rule (output_of report) solid.facets, refl)
 a_made (task.Png unit pitch layer rule workers grid depth mirrors) solid h =
     (sliced grid pitch layer rule (output.Pngs depth mirrors) solid.facets, refl)
-a_made (task.Probe unit pitch layer grid i j k) solid h = (probed grid pitch layer i j k solid.facets, refl)
+a_made (task.Probe unit pitch layer grid i j k) solid h = (probe_result grid pitch layer i j k solid.facets, refl)
 
 pub an_outcome : (t : Task) (bytes : List ℕ) → (answer : Result (List ℕ) RunFault) × IsOutcome t bytes answer
 an_outcome t bytes = by_text (outcome FACET_LIMIT (unit_of t) bytes)

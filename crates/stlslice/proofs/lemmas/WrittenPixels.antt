@@ -1,7 +1,7 @@
 -- What slicing writes follows the loops of all planes and the rays of all facets that were read.
 use Rattle.std.proofs.Common.{◌≡◌, ◌∙◌, ◌++◌, ℕ, Bool, List, Option, Some, ap, length, refl, subst, sym}
 use Rattle.std.specs.List.{AllByRecursion}
-use Rattle.std.specs.Prelude.{◌↔◌, Err, IfSome, IsTrue, Ok, Result, flat_map, sum_by}
+use Rattle.std.specs.Prelude.{◌↔◌, Err, IsTrue, Ok, Result, flat_map, sum_by}
 use Rattle.std.specs.Io.KnownBytes.{Appends}
 use Rattle.std.proofs.lemmas.Bool.Decides.{Decides-at, same_from_decides}
 use Rattle.micro_num.specs.declared.unit.Unit.{Unit as LengthUnit}
@@ -30,7 +30,7 @@ use Rattle.build_book.proofs.lemmas.Promise.{cycles-closed}
 use Rattle.devices.specs.Transcript.{Transcript}
 use Rattle.task_words.specs.declared.task.Given.{Given}
 use Rattle.task_words.specs.declared.task.Task.{Task}
-use Rattle.stlslice.specs.Run.{IsRun}
+use Rattle.stlslice.specs.Run.{IsRun, OfInput}
 use Rattle.stlslice.specs.Outcome.{IsOutcome, grid_for, sliced, slicing, with_grid}
 use Rattle.stlslice.specs.SlicedText.{line_of_layer, sliced_text, total_line}
 use Rattle.stlslice.proofs.lemmas.Pngs.{placed_size, pngs_read}
@@ -122,6 +122,8 @@ pub run_sliced : (unit : LengthUnit) (pitch layer : ℕ) (rule : Rule) (workers 
     → (text : List ℕ) × IsSlicedFrom unit pitch layer rule out given input text × Appends sink.old sink.new text
 run_sliced unit pitch layer rule workers given out input source sink is_settled ran known =
     let t : Task = slicing unit pitch layer rule workers given out in
+    let whole : OfInput (Some input) (λ bytes. (text : List ℕ) × IsOutcome t bytes (Ok text) × Appends sink.old sink.new text) =
+    subst (λ old. OfInput old (λ bytes. (text : List ℕ) × IsOutcome t bytes (Ok text) × Appends sink.old sink.new text)) known ran.ok in
     let written : (text : List ℕ) × IsOutcome t input (Ok text) × Appends sink.old sink.new text =
-    subst (λ old. IfSome old (λ input. (text : List ℕ) × IsOutcome t input (Ok text) × Appends sink.old sink.new text)) known ran.ok in
+    subst (λ bytes. (text : List ℕ) × IsOutcome t bytes (Ok text) × Appends sink.old sink.new text) whole.1 whole.2 in
     (written.0, sliced_from unit pitch layer rule workers given out input written.0 written.1, written.2)

@@ -1,7 +1,7 @@
 //! The output of `--probe`: the rays along x and y at a voxel.
 ghost use Rattle.std.specs.Prelude.{◌≡◌, ◌⊎◌, Err, IfErr, IfOk, Ok, string_bytes};
-ghost use Rattle.stlslice.specs.Outcome.{outside, probed_text};
-ghost use Rattle.stlslice.specs.declared.run_fault.RunFault.TheVariants.{Memory};
+ghost use Rattle.stlslice.specs.Outcome.{probed_text};
+ghost use Rattle.stlslice.specs.declared.run_fault.RunFault.TheVariants.{Memory, Outside};
 
 use crate::run_fault::RunFault;
 use mesh_weld::{Solid, probe};
@@ -19,7 +19,7 @@ pub(crate) fn probe_line<A: Allocator + Copy + Send + Sync>(
     k: u32,
 ) -> Result<String<A>, RunFault>
     ensures ok { IfOk result (λ line. Ok (string_bytes line) ≡ probed_text i j k solid.now.facets grid.now) }
-    ensures err { IfErr result (λ fault. (fault ≡ Memory) ⊎ (fault ≡ outside grid.now)
+    ensures err { IfErr result (λ fault. (fault ≡ Memory) ⊎ (fault ≡ Outside grid.now.columns grid.now.rows grid.now.layers)
         × (Err fault ≡ probed_text i j k solid.now.facets grid.now)) }
 {
     if i < grid.columns() && j < grid.rows() && k < grid.layers() {

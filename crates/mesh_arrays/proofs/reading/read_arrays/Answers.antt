@@ -2,7 +2,8 @@ use Rattle.std.proofs.Common.{◌∙◌, ◌++◌, ◌∷◌, [], List, ℤ, sym
 use Rattle.std.specs.Prelude.{All}
 use Rattle.std.proofs.lemmas.List.{map_more}
 use Rattle.std.proofs.lemmas.List.Elements.{All-more}
-use Rattle.mesh_arrays.specs.Arrays.{IsCorner, facet_of}
+use Rattle.geometry.specs.Indexed.{indexed_facet}
+use Rattle.mesh_arrays.specs.Arrays.{IsCorner}
 use Rattle.mesh_arrays.proofs.reading.read_arrays.Goals as goal
 
 pub loop-triangle-preserved : goal.loop-triangle-preserved
@@ -14,5 +15,5 @@ loop-triangle-preserved g c =
           c.in_ok-facet.ensures.corners;
       each = c.in_ok-push.ensures.items
           ∙ (λ i. c.loop-triangle.invariant.each i ++ c.in_ok-facet.ensures.facet i ∷ [])
-          ∙ sym (map_more (facet_of points) c.args.triangles.now c.loop-triangle.triangle [] c.loop-triangle-test.true);
+          ∙ sym (map_more (indexed_facet points) c.args.triangles.now c.loop-triangle.triangle [] c.loop-triangle-test.true);
     }

@@ -1,16 +1,12 @@
-use Rattle.std.proofs.Common.{◌∙◌, ap, subst, sym}
+use Rattle.std.proofs.Common.{◌∙◌, ap}
 use Rattle.mesh_reading.proofs.lemmas.Faults.{passed_on}
-use Rattle.stlslice.specs.Loading.{IsLoadFault}
 use Rattle.stlslice.specs.RunFault.{of_read}
-use Rattle.stlslice.proofs.lemmas.Faults.{load_fault}
 use Rattle.stlslice.proofs.loading.load.Goals as goal
 
 pub returns-in_err-load-clause-fault : goal.returns-in_err-load-clause-fault
 returns-in_err-load-clause-fault g c =
     passed_on c.from_residual.result _ _
-    (λ f is. subst (IsLoadFault c.args.unit c.args.bytes.now) (sym is)
-    (load_fault c.args.unit c.args.bytes.now c.in_err-load.field-0.0 c.in_err-load.ensures.err))
-    c.from_residual.ensures.1
+    (λ f is. (c.in_err-load.field-0.0, is, c.in_err-load.ensures.err)) c.from_residual.ensures.1
 
 pub returns-in_err-load-clause-only : goal.returns-in_err-load-clause-only
 returns-in_err-load-clause-only g c = λ facets reads closed.

@@ -1,12 +1,15 @@
 use Rattle.std.proofs.Common.{◌≡◌, ◌∙◌, ap, refl, sym, None, Option, Some}
 use Rattle.std.proofs.Common.{arith, of_z, subst, to_z, w32}
 use Rattle.std.proofs.lemmas.Int.{ints, to_z-of_z}
-use Rattle.std.specs.Prelude.{option_and_then}
+use Rattle.std.specs.Prelude.{ℤ, option_and_then}
 use Rattle.geometry.specs.Point.{IsMeshPoint, Point}
-use Rattle.task_words.specs.Texts.{given_at, left_of, point_of}
+use Rattle.task_words.specs.Texts.{given_at, left_of}
 use Rattle.task_words.specs.declared.task.Given.{Given}
 use Rattle.task_words.proofs.TextLemmas.{grid_cut, grid_read, no_point, none_left, point_is, some_left}
 use Rattle.task_words.proofs.texts.read_grid.Goals as goal
+
+abbrev at : ℤ → ℤ → ℤ → Point
+at x y z = record { x = x; y = y; z = z }
 
 pub returns-in_err-y : goal.returns-in_err-y
 returns-in_err-y c = c.from_residual-in_err-y.ensures ∙ sym (grid_cut c.args.text.now (left_of c.count.new.self) (left_of c.count-2.new.self) (left_of c.count-3.new.self)
@@ -31,7 +34,7 @@ returns-in_err-origin c =
     let x : to_z w32 (of_z w32 c.in_ok-x.x) ≡ c.in_ok-x.x = search (arith, ints, to_z-of_z) in
     let y : to_z w32 (of_z w32 c.in_ok-y.y) ≡ c.in_ok-y.y = search (arith, ints, to_z-of_z) in
     let z : to_z w32 (of_z w32 c.in_ok-z.z) ≡ c.in_ok-z.z = search (arith, ints, to_z-of_z) in
-    let passed : point_of (to_z w32 (of_z w32 c.in_ok-x.x)) (to_z w32 (of_z w32 c.in_ok-y.y)) (to_z w32 (of_z w32 c.in_ok-z.z)) ≡ point_of c.in_ok-x.x c.in_ok-y.y c.in_ok-z.z =
+    let passed : at (to_z w32 (of_z w32 c.in_ok-x.x)) (to_z w32 (of_z w32 c.in_ok-y.y)) (to_z w32 (of_z w32 c.in_ok-z.z)) ≡ at c.in_ok-x.x c.in_ok-y.y c.in_ok-z.z =
     λ i. record { x = x i; y = y i; z = z i } in
     let made : Option Point → Option Given = option_and_then (λ origin. Some (given_at c.in_ok-columns.columns c.in_ok-rows.rows c.in_ok-layers.layers origin)) in
     c.from_residual-in_err-origin.ensures ∙ sym (grid_read c.args.text.now (left_of c.count.new.self) (left_of c.count-2.new.self) (left_of c.count-3.new.self)
@@ -47,7 +50,7 @@ returns c =
     let x : to_z w32 (of_z w32 c.in_ok-x.x) ≡ c.in_ok-x.x = search (arith, ints, to_z-of_z) in
     let y : to_z w32 (of_z w32 c.in_ok-y.y) ≡ c.in_ok-y.y = search (arith, ints, to_z-of_z) in
     let z : to_z w32 (of_z w32 c.in_ok-z.z) ≡ c.in_ok-z.z = search (arith, ints, to_z-of_z) in
-    let passed : point_of (to_z w32 (of_z w32 c.in_ok-x.x)) (to_z w32 (of_z w32 c.in_ok-y.y)) (to_z w32 (of_z w32 c.in_ok-z.z)) ≡ point_of c.in_ok-x.x c.in_ok-y.y c.in_ok-z.z =
+    let passed : at (to_z w32 (of_z w32 c.in_ok-x.x)) (to_z w32 (of_z w32 c.in_ok-y.y)) (to_z w32 (of_z w32 c.in_ok-z.z)) ≡ at c.in_ok-x.x c.in_ok-y.y c.in_ok-z.z =
     λ i. record { x = x i; y = y i; z = z i } in
     ap (λ origin. Some (given_at c.in_ok-columns.columns c.in_ok-rows.rows c.in_ok-layers.layers origin)) (c.in_ok-origin.ensures.value ∙ passed)
     ∙ sym (grid_read c.args.text.now (left_of c.count.new.self) (left_of c.count-2.new.self) (left_of c.count-3.new.self)

@@ -1,6 +1,6 @@
 use Rattle.std.proofs.Common.{map}
 use Rattle.std.specs.Prelude.{string_bytes}
-use Rattle.task_words.specs.Words.{IsFaultOf}
+use Rattle.task_words.specs.Words.{IsFaultOfWords}
 use Rattle.task_words.proofs.Parse.{read_ok, refused_by, stands, tells}
 use Rattle.task_words.proofs.TaskLemmas.{err_then}
 use Rattle.task_words.proofs.words.read_words.Goals as goal
@@ -20,5 +20,5 @@ returns-clause-fault c =
 pub returns-in_err-matches-clause-fault : goal.returns-in_err-matches-clause-fault
 returns-in_err-matches-clause-fault c =
     let words = map string_bytes c.args.words.now in
-    err_then c.from_residual-in_err-matches.result _ (IsFaultOf words) c.from_residual-in_err-matches.ensures.1
+    err_then c.from_residual-in_err-matches.result _ (IsFaultOfWords words) c.from_residual-in_err-matches.ensures.1
     (λ f b. refused_by c.in_ok-command.field-0 words c.in_err-matches.field-0.0 f c.in_ok-command.ensures c.in_err-matches.ensures.kinds (b.0, b.1))
