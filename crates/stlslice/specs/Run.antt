@@ -18,6 +18,7 @@ IsRunFault t input cause.Memory = Unit {0}
 IsRunFault t input (cause.Write written) = Unit {0}
 IsRunFault t input (cause.Outside columns rows layers) = IsOutcome t input (Err (cause.Outside columns rows layers))
 
+-- What a run of a task promises. `is_settled` is whether the sink says that all is flushed.
 pub record IsRun {T : Type 0} (t : Task) (result : Result T RunFault) (source sink : Transcript) (is_settled : Bool) : Type 0 where
   -- all was read, also if the run ends with a fault of its text, unless reading or memory failed
   pub whole : result ≢ Err cause.Read → result ≢ Err cause.Memory → IsAtEnd source.new
