@@ -193,7 +193,7 @@ Answers wrong asked = asked ≡ asks_nothing
 abbrev pub IsFirstFault : List Text → WordFault → Type 0
 IsFirstFault words first = (uses : List Use) × (said options words ≡ gives uses) × (first_fault uses ≡ Some first)
 
--- the fault is the one of the words, or an allocation failed
+-- the fault is the one of the words; of `Memory` nothing is said
 abbrev pub IsFaultOf : List Text → WordFault → Type 0
 IsFaultOf words (fault.Refused refusal) =
     (kind_of refusal ≢ OutOfMemory) × Answers (said options words) (asked_by (kind_of refusal))
