@@ -148,6 +148,10 @@ stlslice_status stlslice_png(stlslice_mesh *mesh, uint32_t k, uint32_t depth, ui
 /* The number of filled pixels of layer k. */
 stlslice_status stlslice_area(stlslice_mesh *mesh, uint32_t k, uint64_t *area);
 
+/* The numbers of filled pixels of `count` layers, from layer `first` on. This is faster than one by one. If the mesh has not all
+ * of these layers, none is told, and the status is STLSLICE_OUT_OF_RANGE. */
+stlslice_status stlslice_areas(stlslice_mesh *mesh, uint32_t first, uint64_t *areas, size_t count);
+
 /* The rays from the centre of the voxel of column i, row j (from the least y up) and layer k. */
 stlslice_status stlslice_probe(stlslice_mesh *mesh, uint32_t i, uint32_t j, uint32_t k, stlslice_rays *rays);
 

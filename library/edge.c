@@ -25,6 +25,7 @@ uint32_t proved_stlslice_mask(stlslice_mesh *, uint32_t, uint8_t *, size_t, size
 uint32_t proved_stlslice_stripe(stlslice_mesh *, uint64_t, uint8_t *, size_t, size_t *);
 uint32_t proved_stlslice_png(stlslice_mesh *, uint32_t, uint32_t, uint32_t, uint8_t *, size_t, size_t *);
 uint32_t proved_stlslice_area(stlslice_mesh *, uint32_t, uint64_t *);
+uint32_t proved_stlslice_areas(stlslice_mesh *, uint32_t, uint64_t *, size_t);
 uint32_t proved_stlslice_probe(stlslice_mesh *, uint32_t, uint32_t, uint32_t, stlslice_rays *);
 uint32_t proved_stlslice_loops(stlslice_mesh *, uint32_t, stlslice_point *, size_t, size_t *, size_t *, size_t, size_t *);
 void proved_stlslice_fault_text(uint32_t, uint8_t *, size_t);
@@ -106,6 +107,13 @@ stlslice_status stlslice_png(stlslice_mesh *mesh, uint32_t k, uint32_t depth, ui
 
 stlslice_status stlslice_area(stlslice_mesh *mesh, uint32_t k, uint64_t *area) {
     return mesh == NULL || area == NULL ? STLSLICE_OUT_OF_RANGE : proved_stlslice_area(mesh, k, area);
+}
+
+stlslice_status stlslice_areas(stlslice_mesh *mesh, uint32_t first, uint64_t *areas, size_t count) {
+    uint64_t none = 0;
+    if (mesh == NULL || !can_all_lie(areas, count, sizeof *areas))
+        return STLSLICE_OUT_OF_RANGE;
+    return proved_stlslice_areas(mesh, first, count ? areas : &none, count);
 }
 
 stlslice_status stlslice_probe(stlslice_mesh *mesh, uint32_t i, uint32_t j, uint32_t k, stlslice_rays *rays) {

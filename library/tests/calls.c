@@ -208,6 +208,13 @@ static Answer area(stlslice_mesh *mesh) {
     return answer;
 }
 
+static Answer areas(stlslice_mesh *mesh) {
+    uint64_t pixels[2] = {NINE, NINE};
+    const stlslice_status status = stlslice_areas(mesh, 0, pixels, 1);
+    const Answer answer = {status, pixels[0] == (status == STLSLICE_DONE ? 6 : NINE) && pixels[1] == NINE};
+    return answer;
+}
+
 static Answer probe(stlslice_mesh *mesh) {
     stlslice_rays rays = {NINE, NINE};
     const stlslice_status status = stlslice_probe(mesh, 0, 0, 0, &rays);
@@ -229,10 +236,12 @@ static void a_mesh_is_opened_asked_and_closed(void) {
     CHECK(is_done(stripe_in(&it.mesh, 64)));
     CHECK(is_done(png_in(&it.mesh, 0, 1, 0, 128)));
     CHECK(is_done(area(&it.mesh)));
+    CHECK(is_done(areas(&it.mesh)));
     CHECK(is_done(probe(&it.mesh)));
     CHECK(is_done(loops_in(&it.mesh, 4, 2)));
     stlslice_close(&it.mesh);
     CHECK(is_answer(area(&it.mesh), STLSLICE_NOT_OPEN));
+    CHECK(is_answer(areas(&it.mesh), STLSLICE_NOT_OPEN));
 }
 
 static void a_mesh_of_arrays_is_opened(void) {
@@ -293,6 +302,7 @@ static void each_failed_allocation_is_told(void) {
     CHECK(failures(png) > 0);
     CHECK(failures(stripe) > 0);
     CHECK(failures(area) > 0);
+    CHECK(failures(areas) > 0);
     CHECK(failures(loops) > 0);
 }
 

@@ -83,6 +83,7 @@ static void nulls(void) {
     CHECK(stlslice_stripe(NULL, 0, &byte, 1, &size) == STLSLICE_OUT_OF_RANGE);
     CHECK(stlslice_png(NULL, 0, 8, 0, &byte, 1, &size) == STLSLICE_OUT_OF_RANGE);
     CHECK(stlslice_area(NULL, 0, &area) == STLSLICE_OUT_OF_RANGE);
+    CHECK(stlslice_areas(NULL, 0, &area, 1) == STLSLICE_OUT_OF_RANGE);
     CHECK(stlslice_probe(NULL, 0, 0, 0, &rays) == STLSLICE_OUT_OF_RANGE);
     CHECK(stlslice_loops(NULL, 0, NULL, 0, &size, NULL, 0, &count) == STLSLICE_OUT_OF_RANGE);
     CHECK(stlslice_open(text, text_size, &options, &mesh, &shape, NULL, 0) == STLSLICE_DONE);
@@ -93,6 +94,11 @@ static void nulls(void) {
     CHECK(stlslice_png(&mesh, 0, 8, 0, NULL, 1, &size) == STLSLICE_OUT_OF_RANGE);
     CHECK(stlslice_png(&mesh, 0, 8, 0, &byte, 1, NULL) == STLSLICE_OUT_OF_RANGE);
     CHECK(stlslice_area(&mesh, 0, NULL) == STLSLICE_OUT_OF_RANGE);
+    CHECK(stlslice_areas(&mesh, 0, NULL, 1) == STLSLICE_OUT_OF_RANGE);
+    CHECK(stlslice_areas(&mesh, shape.layers, &area, 1) == STLSLICE_OUT_OF_RANGE);
+    CHECK(stlslice_areas(&mesh, UINT32_MAX, &area, 1) == STLSLICE_OUT_OF_RANGE);
+    CHECK(stlslice_areas(&mesh, shape.layers, NULL, 0) == STLSLICE_DONE);
+    CHECK(stlslice_areas(&mesh, shape.layers + 1, NULL, 0) == STLSLICE_OUT_OF_RANGE);
     CHECK(stlslice_probe(&mesh, 0, 0, 0, NULL) == STLSLICE_OUT_OF_RANGE);
     CHECK(stlslice_loops(&mesh, 0, NULL, 1, &size, NULL, 0, &count) == STLSLICE_OUT_OF_RANGE);
     CHECK(stlslice_loops(&mesh, 0, NULL, 0, &size, NULL, 1, &count) == STLSLICE_OUT_OF_RANGE);
@@ -114,6 +120,7 @@ static void nulls(void) {
         CHECK(stlslice_mask(&mesh, 0, &byte, room, &size) == STLSLICE_OUT_OF_RANGE);
         CHECK(stlslice_stripe(&mesh, 0, &byte, room, &size) == STLSLICE_OUT_OF_RANGE);
         CHECK(stlslice_png(&mesh, 0, 8, 0, &byte, room, &size) == STLSLICE_OUT_OF_RANGE);
+        CHECK(stlslice_areas(&mesh, 0, &area, room / sizeof area) == STLSLICE_OUT_OF_RANGE);
         CHECK(stlslice_loops(&mesh, 0, &point, room / sizeof point, &size, NULL, 0, &count) == STLSLICE_OUT_OF_RANGE);
         CHECK(stlslice_loops(&mesh, 0, NULL, 0, &size, &end, room / sizeof end, &count) == STLSLICE_OUT_OF_RANGE);
         CHECK(mesh.is_open && memcmp(&corners, &corners_were, sizeof corners) == 0);
@@ -357,6 +364,7 @@ static void closed(void) {
         CHECK(stlslice_png(&mesh, 0, 8, 0, bytes, sizeof bytes, &size) == STLSLICE_NOT_OPEN);
         CHECK(stlslice_png(&mesh, 0, 9, 9, NULL, 0, &size) == STLSLICE_NOT_OPEN);
         CHECK(stlslice_area(&mesh, 0, &area) == STLSLICE_NOT_OPEN);
+        CHECK(stlslice_areas(&mesh, 0, &area, 1) == STLSLICE_NOT_OPEN);
         CHECK(stlslice_probe(&mesh, 0, 0, 0, &rays) == STLSLICE_NOT_OPEN);
         CHECK(stlslice_loops(&mesh, 0, NULL, 0, &size, NULL, 0, &size) == STLSLICE_NOT_OPEN);
         CHECK(size == 5 && area == 5 && rays.along_x == 7 && bytes[0] == 0);
@@ -372,7 +380,7 @@ typedef struct {
     stlslice_shape shape;
     stlslice_point points[1000];
     size_t ends[100], size, count;
-    uint64_t area;
+    uint64_t area, areas[3];
 } Told;
 static Told told, before;
 
@@ -385,6 +393,7 @@ static stlslice_status attempt(int turn, stlslice_mesh *mesh, uint8_t *images, s
     case 4: return stlslice_png(mesh, 3, 8, 0, images, room, &told.size);
     case 5: return stlslice_loops(mesh, 3, told.points, 1000, &told.size, told.ends, 100, &told.count);
     case 6: return stlslice_area(mesh, 3, &told.area);
+    case 7: return stlslice_areas(mesh, 1, told.areas, 3);
     default: return stlslice_open_mesh(corners_of_four, 4, four, 4, &options, mesh, &told.shape, line, STLSLICE_LINE);
     }
 }
@@ -403,7 +412,7 @@ static unsigned long short_memory(const char *said) {
     CHECK(stlslice_area(&mesh, 3, &area) == STLSLICE_DONE && area > 0);
     uint8_t *image = (uint8_t *)malloc(one), *images = (uint8_t *)malloc(eight);
     CHECK(image != NULL && images != NULL);
-    for (int turn = 0; turn < 8; turn++) {
+    for (int turn = 0; turn < 9; turn++) {
         CHECK(stlslice_mask(&mesh, 3, image, one, &size) == STLSLICE_DONE);
         for (unsigned long number = 1;; number++) {
             char line[STLSLICE_LINE] = "as before";
@@ -418,7 +427,7 @@ static unsigned long short_memory(const char *said) {
             }
             all++;
             CHECK(status == STLSLICE_MEMORY);
-            CHECK(strcmp(line, turn < 2 || turn == 7 ? said : "as before") == 0);
+            CHECK(strcmp(line, turn < 2 || turn == 8 ? said : "as before") == 0);
             CHECK(memcmp(&told, &before, sizeof told) == 0);
             for (size_t at = 0; at < eight; at++)
                 CHECK(images[at] == 0x3c);

@@ -2,8 +2,7 @@
 // a call and a number, and the reply has the same number. Calls run one after the other.
 
 const DONE = 0, MEMORY = 6, NO_ROOM = 7, LINE = 256;
-const STRIPE = 8; // layers
-const FACET_BYTES = 14; // an image of fewer bytes for each facet is drawn sooner in a stripe than one area is found
+const STRIPE = 32; // layers whose areas are asked for at once
 
 let library = null; // what the module exports
 let stopped = null; // why no call may be made any more
@@ -186,24 +185,15 @@ function area_of(k) {
     return size_at(places.area);
 }
 
-// The areas of a mesh's layers from the first of a stripe on, as many as are found in about this time.
+// The areas of a mesh's layers from this one on, as many as are found in about this time.
 function areas_from(mesh, from, milliseconds) {
-    const end = performance.now() + milliseconds, found = [], by_stripes = image_bytes() < FACET_BYTES * shape.facets;
+    const end = performance.now() + milliseconds, found = [];
     while (from + found.length < shape.layers && (!found.length || performance.now() < end)) {
-        if (by_stripes) found.push(...areas_of_stripe(mesh, (from + found.length) / STRIPE));
-        else {
-            must(ask("stlslice_area", big(mesh), from + found.length, big(places.area)));
-            found.push(size_at(places.area));
-        }
+        const next = from + found.length, count = Math.min(STRIPE, shape.layers - next), room = buffer("areas", 8 * STRIPE);
+        must(ask("stlslice_areas", big(mesh), next, big(room.at), big(count)));
+        for (let k = 0; k < count; k++) found.push(size_at(room.at + 8 * k));
     }
     return found;
-}
-
-function areas_of_stripe(mesh, stripe) {
-    const layers = Math.min(STRIPE, shape.layers - STRIPE * stripe), room = buffer("stripe", STRIPE * (16 + image_bytes()));
-    must(ask("stlslice_stripe", big(mesh), big(stripe), big(room.at), big(room.size), big(places.size)));
-    const each = size_at(places.size) / layers, head = each - image_bytes();
-    return Array.from({ length: layers }, (_, k) => filled_in(bytes(room.at + k * each + head, image_bytes())));
 }
 
 function areas({ from, milliseconds }) {

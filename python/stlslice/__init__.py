@@ -10,6 +10,7 @@
             ...
         mesh.png(120)                   # the layer as PNG: bytes
         mesh.area(120)                  # how many pixels of the layer are filled
+        mesh.areas()                    # of all layers
         mesh.loops(120)                 # its closed polygons: arrays of points, in half-micrometres
         mesh.probe(10, 20, 120)         # signed crossings of the rays along x and y from a voxel's centre
 
@@ -135,6 +136,7 @@ def _library() -> ctypes.CDLL:
         "stripe": [handle, ctypes.c_uint64, at, size, sized],
         "png": [handle, word, word, word, at, size, sized],
         "area": [handle, word, ctypes.POINTER(ctypes.c_uint64)],
+        "areas": [handle, word, at, size],
         "probe": [handle, word, word, word, ctypes.POINTER(_Rays)],
         "loops": [handle, word, at, size, sized, at, size, sized],
         "fault_text": [word, at, size],
@@ -501,6 +503,12 @@ class Mesh:
         pixels = ctypes.c_uint64()
         self._ask("area", self._layer(k), pixels)
         return pixels.value
+
+    def areas(self) -> List[int]:
+        """The numbers of the filled pixels of all layers, from the lowest up. Faster than layer by layer."""
+        areas = (ctypes.c_uint64 * len(self))()
+        self._ask("areas", 0, areas, len(self))
+        return list(areas)
 
     def loops(self, k: int) -> List[numpy.ndarray]:
         """The loops of layer k: for each the points of a closed polygon, one a row, x and y in half-micrometres. The

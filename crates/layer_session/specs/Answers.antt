@@ -1,8 +1,8 @@
 -- What the calls of a session return, and when they return a fault.
-use Rattle.std.specs.Prelude.{◌≡◌, ◌⊎◌, ◌<◌, ◌≤◌, ◌-◌, ℕ, ℤ, List, Bool, Result, Ok, Err, flat_map, if◌then◌else◌}
+use Rattle.std.specs.Prelude.{◌≡◌, ◌⊎◌, ◌<◌, ◌≤◌, ◌+◌, ◌-◌, ℕ, ℤ, List, Bool, Result, Ok, Err, flat_map, if◌then◌else◌, map}
 use Rattle.std.specs.List.{range_with_len}
 use Rattle.geometry.specs.Winding.{ray, ray_y}
-use Rattle.raster.specs.Filler.{is_filled}
+use Rattle.raster.specs.Filler.{area_of, is_filled}
 use Rattle.raster.specs.Grid.{Grid, centre, is_voxel}
 use Rattle.raster.specs.Image.{layer_image}
 use Rattle.layer_png.specs.Layer.{column_at, row_at}
@@ -20,6 +20,10 @@ image_of job k = layer_image job.grid job.rule job.solid.facets k
 -- the images of the layers from a number up to, but not including, another
 abbrev pub images_between : Job → ℕ → ℕ → List ℕ
 images_between job from to = flat_map (image_of job) (range_with_len from (to - from))
+
+-- the numbers of the filled pixels of so many layers, from layer `first` on
+abbrev pub areas_of : Job → ℕ → ℕ → List ℕ
+areas_of job first count = map (area_of job.grid job.rule job.solid.facets) (range_with_len first count)
 
 -- the pixel of column x and row y of the PNG of layer k, from the left and from the top, is white: its voxel is filled
 abbrev pub is_white_pixel : Job → ℕ → Mirrors → ℕ → ℕ → Bool
@@ -52,6 +56,11 @@ IsIndexFault g count index f = ((f ≡ fault.Memory) × (index < count)) ⊎ ((f
 -- no memory for layer k, or no such layer in the grid
 abbrev pub IsLayerFault : Grid → ℕ → SessionFault → Type 0
 IsLayerFault g k f = IsIndexFault g g.layers k f
+
+-- no memory for the areas of so many layers from layer `first` on, or the grid has not all of them
+abbrev pub IsRangeFault : Grid → ℕ → ℕ → SessionFault → Type 0
+IsRangeFault g first count f =
+    ((f ≡ fault.Memory) × (first + count ≤ g.layers)) ⊎ ((f ≡ outside g) × (g.layers < first + count))
 
 -- no memory for stripe s, or no such stripe in the grid
 abbrev pub IsStripeFault : Grid → ℕ → SessionFault → Type 0

@@ -1,5 +1,5 @@
 //! What is made of a job's layers: loops, as segments and as points, filled pixels and their number, images and PNGs.
-ghost use Rattle.std.specs.Prelude.{◌≡◌, ◌<◌, ◌≤◌, ◌≤ℤ◌, ◌+◌, ◌++◌, All, IfOk, OnOk, length};
+ghost use Rattle.std.specs.Prelude.{◌≡◌, ◌<◌, ◌≤◌, ◌≤ℤ◌, ◌+◌, ◌-◌, ◌++◌, All, IfOk, OnOk, length};
 ghost use Rattle.build_book.specs.Job.{stripe_count};
 ghost use Rattle.build_book.specs.Layer.{layer_segments};
 ghost use Rattle.plane_segments.specs.Segment.{HasOrderedNodes};
@@ -10,13 +10,26 @@ ghost use Rattle.layer_png.specs.Layer.{grey};
 ghost use Rattle.layer_png.specs.Png.{IsPng};
 ghost use Rattle.raster.specs.Filler.{IsFillOf, area_of};
 ghost use Rattle.raster.specs.Grid.{plane};
-ghost use Rattle.layer_session.specs.Answers.{image_of, images_between, is_white_pixel, png_of_layer, stripe_images};
+ghost use Rattle.layer_session.specs.Answers.{areas_of, image_of, images_between, is_white_pixel, png_of_layer, stripe_images};
 
 use build_book::Job;
-use contour::{Linker, Loops, Outlines, Sweep, segments};
+use contour::{Linker, Loops, Outlines, Segment, Sweep};
 use layer_png::{Depth, Mirrors, write_png};
 use raster::{Filler, Page, Span, area, fill, image_len};
 use std::alloc::{AllocError, Allocator};
+
+/// The segments of layer k of a job, by a sweep that starts at its plane: so it looks at few facets beside those that it cuts.
+fn segments_of_layer<A: Allocator + Copy + Send + Sync>(
+    alloc: A,
+    job: &Job<A>,
+    k: u32,
+) -> Result<Vec<Segment, A>, AllocError>
+    requires { k < job.now.grid.layers }
+    ensures segments { IfOk result (λ list. list.items ≡ layer_segments job.now k) }
+    ensures ordered { IfOk result (λ list. All HasOrderedNodes list.items) }
+{
+    Sweep::start(alloc, job.solid(), job.grid().plane(k))?.segments()
+}
 
 /// The loops of layer k of a job.
 pub(crate) fn layer_loops<A: Allocator + Copy + Send + Sync>(
@@ -29,7 +42,7 @@ pub(crate) fn layer_loops<A: Allocator + Copy + Send + Sync>(
     ensures closed { IfOk result (AreLoops (layer_segments job.now k)) }
     ensures ordered { IfOk result (All (All HasOrderedNodes)) }
 {
-    let list = segments(alloc, job.solid(), job.grid().plane(k))?;
+    let list = segments_of_layer(alloc, job, k)?;
     Linker::new(alloc, job.solid())?.loops(job.solid(), list.as_slice())
 }
 
@@ -55,7 +68,7 @@ fn layer_spans<A: Allocator + Copy + Send + Sync>(
     requires { k < job.now.grid.layers }
     ensures { IfOk result (λ spans. IsFillOf job.now.grid job.now.rule job.now.solid.facets k spans.items) }
 {
-    let list = segments(alloc, job.solid(), job.grid().plane(k))?;
+    let list = segments_of_layer(alloc, job, k)?;
     fill(
         alloc,
         job.solid(),
@@ -76,9 +89,38 @@ pub(crate) fn layer_area<A: Allocator + Copy + Send + Sync>(
     ensures { IfOk result (λ area. area ≡ area_of job.now.grid job.now.rule job.now.solid.facets k) }
 {
     let spans = layer_spans(alloc, job, k)?;
+    Ok(area_of_spans(job, k, spans.as_slice()))
+}
+
+/// The number of the filled pixels of layer k of a job, which are these spans.
+fn area_of_spans<A: Allocator>(job: &Job<A>, k: u32, spans: &[Span]) -> u64
+    requires { IsFillOf job.now.grid job.now.rule job.now.solid.facets k spans.now }
+    ensures { result ≡ area_of job.now.grid job.now.rule job.now.solid.facets k }
+{
     // `area` requires counts within their limits
     job.grid().hold_limits();
-    Ok(area(spans.as_slice()))
+    area(spans)
+}
+
+/// The numbers of the filled pixels of the layers from `first` up to, but not including, `end`, by one sweep.
+pub(crate) fn layer_areas<A: Allocator + Copy + Send + Sync>(
+    alloc: A,
+    job: &Job<A>,
+    first: u32,
+    end: u32,
+) -> Result<Vec<u64, A>, AllocError>
+    requires some { first < end }
+    requires within { end ≤ job.now.grid.layers }
+    ensures { IfOk result (λ areas. areas.items ≡ areas_of job.now first (end - first)) }
+{
+    let mut areas = Vec::with_capacity(alloc, (end - first) as usize)?;
+    let mut sweep = Sweep::start(alloc, job.solid(), job.grid().plane(first))?;
+    let mut filler = Filler::new(alloc);
+    for k in first..end {
+        let spans = spans_by_sweep(job, k, &mut sweep, &mut filler)?;
+        areas.push(area_of_spans(job, k, spans.as_slice()))?;
+    }
+    Ok(areas)
 }
 
 /// The image of layer k of a job.
@@ -173,11 +215,29 @@ fn draw_layer<A: Allocator + Copy + Send + Sync>(
     ensures drawn { OnOk result (page.new.bytes ≡ page.old.bytes ++ image_of job.now k) }
     ensures room { OnOk result (page.new.room ≡ page.old.room) }
 {
+    let spans = spans_by_sweep(job, k, sweep, filler)?;
+    draw_spans(job, k, spans.as_slice(), page);
+    Ok(())
+}
+
+/// Raises the sweep to the plane of layer k: the filled pixels of the layer.
+fn spans_by_sweep<A: Allocator + Copy + Send + Sync>(
+    job: &Job<A>,
+    k: u32,
+    sweep: &mut Sweep<'_, A>,
+    filler: &mut Filler<A>,
+) -> Result<Vec<Span, A>, AllocError>
+    requires place { k < job.now.grid.layers }
+    requires solid { sweep.old.facets ≡ job.now.solid.facets }
+    requires height { sweep.old.height ≤ℤ plane job.now.grid k }
+    ensures solid { OnOk result (sweep.new.facets ≡ sweep.old.facets) }
+    ensures height { OnOk result (sweep.new.height ≡ plane job.now.grid k) }
+    ensures filled { IfOk result (λ spans. IsFillOf job.now.grid job.now.rule job.now.solid.facets k spans.items) }
+{
     sweep.advance(job.grid().plane(k))?;
     let list = sweep.segments()?;
     let spans = filler.fill(job.solid(), job.grid(), job.rule(), k, list.as_slice())?;
-    draw_spans(job, k, spans.as_slice(), page);
-    Ok(())
+    Ok(spans)
 }
 
 /// Draws the image of layer k, of which these spans are the filled pixels.

@@ -1,5 +1,5 @@
 //! Sessions: a closed mesh in its grid, with a rule, asked layer by layer.
-ghost use Rattle.std.specs.Prelude.{◌≡◌, ◌<◌, ◌≤◌, ◌*◌, All, Err, IfErr, IfOk, OnOk, length, vec_len, ℕ};
+ghost use Rattle.std.specs.Prelude.{◌≡◌, ◌<◌, ◌≤◌, ◌+◌, ◌*◌, All, Err, IfErr, IfOk, OnOk, length, vec_len, ℕ};
 ghost use Rattle.build_book.specs.Job.{stripe_count};
 ghost use Rattle.build_book.specs.Layer.{layer_segments};
 ghost use Rattle.build_book.specs.declared.limits.TheConstants.{MOST_STRIPES, STRIPE_LAYERS};
@@ -13,13 +13,13 @@ ghost use Rattle.layer_png.specs.Png.{IsPng};
 ghost use Rattle.raster.specs.Filler.{area_of};
 ghost use Rattle.raster.specs.Grid.{plane};
 ghost use Rattle.raster.specs.Image.{image_limit};
-ghost use Rattle.layer_session.specs.Answers.{IsLayerFault, IsStripeFault, image_of, is_white_pixel, outside, png_of_layer, probed, stripe_images};
+ghost use Rattle.layer_session.specs.Answers.{IsLayerFault, IsRangeFault, IsStripeFault, areas_of, image_of, is_white_pixel, outside, png_of_layer, probed, stripe_images};
 ghost use Rattle.layer_session.specs.Session.{Input, IsOpenFault, IsReadAs, IsSessionOf, Session as SessionModel, of_arrays, of_text};
 ghost use Rattle.layer_session.specs.Setup.{HasSteps};
 ghost use Rattle.layer_session.specs.declared.session_fault.SessionFault.TheVariants.{Memory, Step};
 
 use crate::layers::{
-    layer_area, layer_as_png, layer_image, layer_loops, layer_outlines, stripe_images,
+    layer_area, layer_areas, layer_as_png, layer_image, layer_loops, layer_outlines, stripe_images,
 };
 use crate::session_fault::SessionFault;
 use crate::setup::Setup;
@@ -255,6 +255,25 @@ impl<A: Allocator + Copy + Send + Sync> Session<A> {
     {
         self.check_layer(k)?;
         Ok(layer_area(self.alloc, &self.job, k)?)
+    }
+
+    /// The numbers of filled pixels of `count` layers, from layer `first` on, each as [`Session::area`] gives it. One sweep cuts
+    /// all of these layers. No layers have no numbers: `count` may be 0.
+    ///
+    /// # Errors
+    /// `Outside` exactly if the grid has not all of these layers; `Memory` only if an allocation failed.
+    pub fn areas(&self, first: u32, count: u32) -> Result<Vec<u64, A>, SessionFault>
+        ensures areas { IfOk result (λ areas. areas.items ≡ areas_of self.now.job first count) }
+        ensures within { OnOk result (first + count ≤ self.now.job.grid.layers) }
+        ensures fault { IfErr result (IsRangeFault self.now.job.grid first count) }
+    {
+        if u64::from(first) + u64::from(count) > u64::from(self.layers()) {
+            return Err(self.outside());
+        }
+        if count == 0 {
+            return Ok(Vec::new(self.alloc));
+        }
+        Ok(layer_areas(self.alloc, &self.job, first, first + count)?)
     }
 
     /// The loops of layer k: the closed cycles of the segments in which its plane cuts the mesh, each segment in exactly

@@ -401,6 +401,38 @@ fn faults_of_a_text_and_of_a_grid(rt: HostRuntime) {
     }
 }
 
+/// Whether the areas of so many layers, from layer `first` on, are those of each alone.
+fn are_areas_of_each(session: &Session<Global>, first: u32, count: u32) -> bool {
+    match session.areas(first, count) {
+        Ok(areas) => {
+            let mut are_alike = areas.len() == count as usize;
+            for (place, area) in areas.iter().enumerate() {
+                let k = first.saturating_add(place as u32);
+                are_alike = are_alike && session.area(k) == Ok(*area);
+            }
+            are_alike
+        }
+        Err(_) => false,
+    }
+}
+
+#[test]
+fn areas_of_layers_in_a_row_are_those_of_each(rt: HostRuntime) {
+    for rule in EACH_RULE {
+        match open(rt.alloc(), TWO_CUBES, &fitted(1, rule)) {
+            Ok(session) => {
+                let layers = session.layers();
+                assert!(rt; layers > 5 && are_areas_of_each(&session, 0, layers));
+                assert!(rt; are_areas_of_each(&session, 2, 3) && are_areas_of_each(&session, 5, 1));
+                assert!(rt;
+                    are_areas_of_each(&session, 0, 0) && are_areas_of_each(&session, layers, 0)
+                );
+            }
+            Err(_) => assert!(rt; false),
+        }
+    }
+}
+
 /// What is reported of a layer, a stripe or a voxel outside the column's grid.
 const OUTSIDE: SessionFault = SessionFault::Outside {
     columns: 1,
@@ -416,6 +448,14 @@ fn is_outside(session: &Session<Global>, k: u32) -> bool {
         && session.probe(0, 0, k) == Err(OUTSIDE)
 }
 
+/// Whether so many layers of the column's session, from layer `first` on, are not all in its grid.
+fn are_outside(session: &Session<Global>, first: u32, count: u32) -> bool {
+    match session.areas(first, count) {
+        Ok(_) => false,
+        Err(fault) => fault == OUTSIDE,
+    }
+}
+
 /// Whether a stripe of the column's session is outside.
 fn is_stripe_outside(session: &Session<Global>, s: u64) -> bool {
     stripe_len(session, s) == Err(OUTSIDE)
@@ -427,6 +467,8 @@ fn nothing_lies_outside_the_grid(rt: HostRuntime) {
         Ok(session) => {
             assert!(rt; is_outside(&session, 17) && is_outside(&session, u32::MAX));
             assert!(rt; is_stripe_outside(&session, 3) && is_stripe_outside(&session, u64::MAX));
+            assert!(rt; are_outside(&session, 17, 1) && are_outside(&session, 0, 18));
+            assert!(rt; are_outside(&session, 18, 0) && are_outside(&session, u32::MAX, u32::MAX));
             assert!(rt; session.probe(1, 0, 0) == Err(OUTSIDE));
             assert!(rt; session.probe(0, 1, 0) == Err(OUTSIDE));
         }
@@ -443,7 +485,7 @@ fn what_lies_outside_is_told_with_the_grid(rt: HostRuntime) {
 /// What a session returns, one call after the other; every call is made again if one of them has no memory.
 fn answers(
     memory: &ShortMemory<Global>,
-) -> Result<(usize, usize, usize, u64, usize), SessionFault> {
+) -> Result<(usize, usize, usize, u64, usize, usize), SessionFault> {
     match open(memory, TWO_CUBES, &fitted(1, Rule::NonZero)) {
         Ok(session) => match answers_of(&session) {
             Err(SessionFault::Memory) => answers_of(&session),
@@ -453,15 +495,16 @@ fn answers(
     }
 }
 
-/// The lengths of an image, of a PNG and of a stripe, an area and a count of loops.
+/// The lengths of an image, of a PNG and of a stripe, an area, how many areas two layers have, and a count of loops.
 fn answers_of<A: Allocator + Copy + Send + Sync>(
     session: &Session<A>,
-) -> Result<(usize, usize, usize, u64, usize), SessionFault> {
+) -> Result<(usize, usize, usize, u64, usize, usize), SessionFault> {
     Ok((
         image_len(session, 3)?,
         png_len(session, 3)?,
         stripe_len(session, 0)?,
         session.area(3)?,
+        session.areas(3, 2)?.len(),
         loop_count(session, 3)?,
     ))
 }
@@ -469,7 +512,7 @@ fn answers_of<A: Allocator + Copy + Send + Sync>(
 /// Fails each allocation in turn until none is left to fail. Returns how many of them gave `Memory`, and how many were mended by
 /// the next try. It is `None` if a result was another.
 fn failures(alloc: Global) -> Option<(u32, u32)> {
-    let usual = (13, 110, 78, 28, 2);
+    let usual = (13, 110, 78, 28, 2, 2);
     let (mut told, mut tried) = (0u32, 0u32);
     for turn in 1..2000u64 {
         let memory = ShortMemory::new(alloc, turn);

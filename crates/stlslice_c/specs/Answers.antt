@@ -9,7 +9,7 @@ use Rattle.raster.specs.Filler.{area_of}
 use Rattle.layer_png.specs.declared.depth.Depth.{Depth}
 use Rattle.layer_png.specs.declared.mirrors.Mirrors.{Mirrors}
 use Rattle.build_book.specs.Job.{Job, stripe_count}
-use Rattle.layer_session.specs.Answers.{image_of, outside, png_of_layer, probed, stripe_images}
+use Rattle.layer_session.specs.Answers.{areas_of, image_of, outside, png_of_layer, probed, stripe_images}
 use Rattle.layer_session.specs.Session.{Input, IsOpenFault, IsSessionOf, Session}
 use Rattle.layer_session.specs.SessionFault.{session_fault_text}
 use Rattle.layer_session.specs.Setup.{HasSteps}
@@ -71,6 +71,13 @@ IsAreaAnswer job k old new status =
     ((k < job.grid.layers) × (new ≡ area_of job.grid job.rule job.solid.facets k) × (status ≡ DONE))
     ⊎ ((k < job.grid.layers) × (new ≡ old) × (status ≡ MEMORY))
     ⊎ ((job.grid.layers ≤ k) × (new ≡ old) × (status ≡ OUT_OF_RANGE))
+
+-- the numbers of filled pixels of as many layers, from layer `first` on, as there are places
+abbrev pub IsAreasAnswer : Job → ℕ → List ℕ → List ℕ → ℕ → Type 0
+IsAreasAnswer job first old new status =
+    ((first + length old ≤ job.grid.layers) × (new ≡ areas_of job first (length old)) × (status ≡ DONE))
+    ⊎ ((first + length old ≤ job.grid.layers) × (new ≡ old) × (status ≡ MEMORY))
+    ⊎ ((job.grid.layers < first + length old) × (new ≡ old) × (status ≡ OUT_OF_RANGE))
 
 abbrev pub IsProbeAnswer : Job → ℕ → ℕ → ℕ → Rays → Rays → ℕ → Type 0
 IsProbeAnswer job i j k old new status =

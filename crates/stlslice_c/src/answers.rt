@@ -1,5 +1,5 @@
 //! What an open mesh is asked.
-ghost use Rattle.stlslice_c.specs.Answers.{IsAreaAnswer, IsMaskAnswer, IsPngAnswer, IsProbeAnswer, IsStripeAnswer};
+ghost use Rattle.stlslice_c.specs.Answers.{IsAreaAnswer, IsAreasAnswer, IsMaskAnswer, IsPngAnswer, IsProbeAnswer, IsStripeAnswer};
 
 use crate::buffers::{has_room, put, put_if_room};
 use crate::options::{depth_numbered, mirrors_numbered};
@@ -78,6 +78,26 @@ pub(crate) fn put_area<A: Allocator + Copy + Send + Sync>(
     match session.area(k) {
         Ok(pixels) => {
             *area = pixels;
+            DONE
+        }
+        Err(fault) => status_of(&fault),
+    }
+}
+
+/// Puts the numbers of filled pixels of the layers from `first` on, as many as there are places for.
+pub(crate) fn put_areas<A: Allocator + Copy + Send + Sync>(
+    session: &Session<A>,
+    first: u32,
+    areas: &mut [u64],
+) -> Status
+    ensures { IsAreasAnswer session.now.job first areas.old areas.new result }
+{
+    if areas.len() as u64 > u64::from(session.layers()) {
+        return OUT_OF_RANGE;
+    }
+    match session.areas(first, areas.len() as u32) {
+        Ok(pixels) => {
+            areas.copy_from_slice(pixels.as_slice());
             DONE
         }
         Err(fault) => status_of(&fault),

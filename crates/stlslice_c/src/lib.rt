@@ -46,12 +46,12 @@ mod status;
 
 ghost use Rattle.std.specs.Prelude.{◌≡◌, None, Some};
 ghost use Rattle.layer_session.specs.Session.{Session, of_arrays, of_text};
-ghost use Rattle.stlslice_c.specs.Answers.{IsAreaAnswer, IsBoxAnswer, IsLine, IsMaskAnswer, IsOpening, IsPngAnswer, IsProbeAnswer, IsStripeAnswer};
+ghost use Rattle.stlslice_c.specs.Answers.{IsAreaAnswer, IsAreasAnswer, IsBoxAnswer, IsLine, IsMaskAnswer, IsOpening, IsPngAnswer, IsProbeAnswer, IsStripeAnswer};
 ghost use Rattle.stlslice_c.specs.Loops.{AreAsBefore, IsLoops};
 ghost use Rattle.stlslice_c.specs.Status.{status_text};
 ghost use Rattle.stlslice_c.specs.declared.status.TheConstants.{NOT_OPEN};
 
-use answers::{put_area, put_mask, put_png, put_probe, put_stripe};
+use answers::{put_area, put_areas, put_mask, put_png, put_probe, put_stripe};
 pub use handle::Handle;
 use lines::{put_fault, put_status};
 pub use loops::LoopPoint;
@@ -240,6 +240,23 @@ pub extern "C" fn stlslice_area(alloc: Global, handle: &mut Handle, k: u32, area
     ensures closed { handle.old.mesh.session ≡ None → (result ≡ NOT_OPEN) × (area.new ≡ area.old) }
 {
     asked!(alloc, handle, session => put_area(&session, k, area))
+}
+
+/// Puts the numbers of filled pixels of the layers from `first` on into `areas`: as many as it has places. This is faster than
+/// one by one. The status is 0, 1 (no such layers), 6 or 8.
+#[unsafe(no_mangle)]
+pub extern "C" fn stlslice_areas(
+    alloc: Global,
+    handle: &mut Handle,
+    first: u32,
+    areas: &mut [u64],
+) -> u32
+    ensures kept { handle.new.mesh.session ≡ handle.old.mesh.session }
+    ensures open { (session : Session) → handle.old.mesh.session ≡ Some session
+        → IsAreasAnswer session.job first areas.old areas.new result }
+    ensures closed { handle.old.mesh.session ≡ None → (result ≡ NOT_OPEN) × (areas.new ≡ areas.old) }
+{
+    asked!(alloc, handle, session => put_areas(&session, first, areas))
 }
 
 /// Puts the signed crossings of the rays along x and along y from the centre of a voxel into `rays`. The voxel is in

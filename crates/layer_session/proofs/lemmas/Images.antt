@@ -2,6 +2,7 @@
 use Rattle.std.proofs.Common.{◌≡◌, ◌∙◌, ℕ, suc, ◌+◌, ◌-◌, ◌<◌, ◌≤◌, List, [], ◌++◌, ℤ, ◌≤ℤ◌, ap, append_assoc, length, length-append, refl, sym, arith}
 use Rattle.std.specs.Prelude.{flat_map}
 use Rattle.std.specs.List.{range_with_len}
+use Rattle.std.proofs.lemmas.Int.{ints}
 use Rattle.std.proofs.lemmas.List.{append-nil}
 use Rattle.std.proofs.lemmas.List.Concat.{flat_map-cons}
 use Rattle.raster.specs.declared.span.Span.{Span}
@@ -77,3 +78,7 @@ pub next-plane : (g : Grid) (k : ℕ) (height : ℤ) → height ≡ plane g k �
 next-plane g k height is =
     let at : k ≡ k + 1 - 1 = omega arith in
     higher_plane g (k + 1) height (plane g (k + 1)) (is ∙ ap (λ (n : ℕ). plane g n) at) refl
+
+-- a height that is another is not above it
+pub as-high : (low high : ℤ) → low ≡ high → low ≤ℤ high
+as-high low high same = omega (arith, ints, same)

@@ -16,9 +16,6 @@ use Rattle.geometry.specs.declared.limits.TheConstants.{FACET_LIMIT}
 word_behind_a_blank : Text.first_word (codes " solid x") ≡ codes "solid"
 word_behind_a_blank = refl
 
-any_case : Text.is_keyword (codes "FaCet") (codes "facet") ≡ true
-any_case = refl
-
 vertical_tab : Text.is_white 11 ≡ true
 vertical_tab = refl
 

@@ -1,14 +1,10 @@
-use Rattle.std.proofs.Common.{◌≡◌, ◌∙◌, ◌≤◌, ◌++◌, List, ℕ, ℤ, ◌≤ℤ◌, ap, arith, length, length-append, refl, rules}
-use Rattle.std.proofs.lemmas.Int.{ints}
+use Rattle.std.proofs.Common.{◌≡◌, ◌∙◌, ◌≤◌, ◌++◌, List, ℕ, ap, arith, length, length-append, refl, rules}
 use Rattle.mesh_weld.specs.Solid.{Solid}
 use Rattle.raster.specs.Grid.{plane}
 use Rattle.build_book.specs.Job.{Job}
 use Rattle.layer_session.specs.Answers.{images_between}
-use Rattle.layer_session.proofs.lemmas.Images.{all-drawn, next-drawn, next-fits, next-plane}
+use Rattle.layer_session.proofs.lemmas.Images.{all-drawn, as-high, next-drawn, next-fits, next-plane}
 use Rattle.layer_session.proofs.layers.draw_layers.Goals as goal
-
-as-high : (low high : ℤ) → low ≡ high → low ≤ℤ high
-as-high low high same = omega (arith, ints, same)
 
 pub loop-k-init : goal.loop-k-init
 loop-k-init g c =

@@ -1,7 +1,7 @@
 use Rattle.std.proofs.Common.{◌∙◌, subst}
 use Rattle.raster.specs.Grid.{IsGrid}
 use Rattle.build_book.proofs.lemmas.Areas.{span_area-is}
-use Rattle.layer_session.proofs.layers.layer_area.Goals as goal
+use Rattle.layer_session.proofs.layers.area_of_spans.Goals as goal
 
 pub area-requires : goal.area-requires
 area-requires g c =
@@ -11,13 +11,11 @@ area-requires g c =
       rows = c.args.job.now.grid.rows;
       few_columns = limits.columns_high;
       few_rows = limits.rows_high;
-      form = rw c.as_slice.ensures.value c.in_ok-spans.ensures.form;
+      form = c.requires.form;
     }
 
 pub returns : goal.returns
 returns g c =
-    let spans = c.in_ok-spans.spans.items in
     c.area.ensures
-    ∙ rw c.as_slice.ensures.value
-    (span_area-is c.args.job.now.grid c.args.job.now.rule c.args.job.now.solid.facets c.args.k spans
-    c.in_ok-spans.ensures.form c.in_ok-spans.ensures.filled)
+    ∙ span_area-is c.args.job.now.grid c.args.job.now.rule c.args.job.now.solid.facets c.args.k c.args.spans.now
+    c.requires.form c.requires.filled
