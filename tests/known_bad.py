@@ -1,9 +1,8 @@
 #!/usr/bin/env -S python3 -B
-"""Plants twelve wrong bodies, one at a time, in a copy of the sources, and shows that the test named for each fails there;
-with words, those whose names hold one of them. Of what a lock is held for, that workers run at the same time, that memory
-suffices and that a device works, no clause speaks: there the tests are all that there is. Each takes one to five minutes,
-since `rt try --test` builds the tests, so this is no part of `make test`. In a copy as it is, the tests have to pass.
-"""
+"""Plants thirteen wrong bodies, one at a time, in a copy of the sources, and shows that the test named for each fails there; with
+words, those whose names hold one of them. Of what a lock is held for, that workers run at the same time, that memory suffices and
+that a device works, tests alone speak. Each takes one to five minutes, since `rt try --test` builds the tests, so this is no part
+of `make test`. In a copy as it is, the tests have to pass."""
 
 import os
 import re
@@ -39,12 +38,13 @@ BAD = [
      r"let _spans = \1; Err(AllocError)\n", "layer_tests filling::layers_of_two_cubes"),
     ("a run_watched that always answers out of memory", "stlslice/src/running.rt",
      r"match \*task \{\s+Task::Box \{ unit \} => run_box\(",
-     r"let end: Result<(), RunFault> = Err(RunFault::Memory); if end.is_err() { return end; } \g<0>",
-     "run_tests box_runs::boxes"),
+     r"let end: Result<(), RunFault> = Err(RunFault::Memory); if end.is_err() { return end; } \g<0>", "run_tests box_runs::boxes"),
     ("a Counted whose reads always fail", COUNTED, COUNT + r"\}\s+impl<T: Write> Sink)", FAIL, BYTES),
     ("a Counted whose writes always fail", COUNTED, COUNT + r"fn settle)", FAIL, BYTES),
     ("a Counted that can't be flushed", COUNTED, r"self\.is_settled = true;\s+Ok\(\(\)\)", "Err(self.fail())",
      "layer_tests byte_writers::an_interrupted_flush_is_not_tried_again"),
+    ("a Counted that never flushes", COUNTED, r"self\.inner\.flush\(\)", "Ok::<(), Failed>(())",
+     "run_tests device_runs::writers_with_little_room"),
 ]
 
 

@@ -20,13 +20,24 @@ LED_TO = (("stlslice", "stlslice.specs.html#Run.IsRun"), ("stlslice", "stlslice.
 BELIEVED = (
     ("believe-slice.html", "stlslice.run",
      ["stlslice.Run.IsRun", "stlslice.Outcome.IsOutcome", "mesh_weld.Balance.IsBalanced", "geometry.Winding.ray",
-      "geometry.TieRule.is_below", "raster.Rule.is_inside", "raster.Image.images", "devices.Source", "devices.Sink"]),
+      "geometry.TieRule.is_below", "raster.Rule.is_inside", "raster.Image.images", "devices.Source", "devices.Sink",
+      "stlslice.RunFault.run_fault_text", "mesh_weld.WeldFault.open_edge_text"]),
     ("believe-text.html", "stl_text.Text.Reads", ["stl_text.Text.IsFaultOf", "micro_num.Micrometres.micro"]),
     ("believe-png.html", "stlslice.SlicedText.pngs", ["layer_png.Text.layer_png"]),
+    ("believe-reader.html", "layer_png.Png.IsPng",
+     ["layer_png.Png.png_of", "layer_png.Stream.cut_pngs", "deflate.Zlib.unzipped", "deflate.Huffman.is_complete"]),
     ("believe-box.html", "stlslice.Outcome.box_text", ["stlslice.Outcome.probe_result", "contour.Loops.loops", "geometry.Winding.ray_y"]),
-    ("believe-words.html", "task_words.read_words", ["task_words.Words.StandFor", "task_words.Words.options", "task_words.Options.said"]),
+    ("believe-words.html", "task_words.read_words",
+     ["task_words.Words.StandFor", "task_words.Words.options", "task_words.Options.said", "task_words.wants_progress",
+      "task_words.WordFault.word_fault_text"]),
     ("believe-mask.html", "stlslice_c.stlslice_mask",
      ["stlslice_c.Answers.IsMaskAnswer", "raster.Image.layer_image", "geometry.Winding.ray", "raster.Rule.is_inside"]))
+
+# Examples: the crate and the definition, whose name may be that of others too, and how its example begins.
+EXAMPLES = (("micro_num", "Micrometres.coordinate_of", "coordinate_of Inch (codes"),
+            ("binary_stl", "Single.coordinate_of", "coordinate_of Inch 0x"),
+            ("stl_text", "Text.IsFaultOf", "Text.IsFaultOf 12 Millimetre"),
+            ("task_words", "Words.IsFaultOfWords", "IsFaultOfWords (codes"))
 
 
 def public_names():
@@ -120,6 +131,26 @@ class Reference(Together):
             blocks = [re.findall(r"(?s)<pre>(.*?)</pre>", it)[-1] for it in shown]
             lines = [plain(line).strip() for block in blocks for line in block.splitlines()]
             same(sum(1 for line in lines if line and not line.startswith(("--", "//"))), told, f"lines of {page}")
+
+    def test_an_example_is_of_the_definition_above_it(self):
+        for crate, mark, begins in EXAMPLES:
+            shown = self.pages[f"{crate}.specs.html"][0].split(f'id="{mark}"')[1].split("<h3 ")[0]
+            assert re.search(r"For example, [^:]*: <code>" + re.escape(begins), shown), f"{crate}: no example {begins} at {mark}"
+        shown = "".join(text for name, (text, _) in self.pages.items() if name.startswith("believe-"))
+        assert shown.count("For example, ") > 40, f"{shown.count('For example, ')} examples of what has to be believed"
+        assert "For example" not in self.pages["mesh_arrays.specs.html"][0], "an example of another crate"
+
+    def test_a_definition_shows_the_parameters_of_its_module(self):
+        shown = plain(self.pages["task_words.specs.html"][0])
+        assert "module _ (options : List Known) where\n  abbrev pub said :" in shown, "said has no options"
+        assert "is_last (word ∷ rest) = false\nmodule" not in shown, "is_last goes on to a module"
+
+    def test_a_folder_of_something_else_stays(self):
+        os.mkdir(self.room.file("own"))
+        open(self.room.file("own", "part.stl"), "w").close()
+        for word in (self.room.file("own"), "--help"):
+            same(self.room.run(sys.executable, "tools/reference.py", word).status, 1, f"status for {word}")
+        same(os.listdir(self.room.file("own")), ["part.stl"], "what is left")
 
     @needs("chromium")
     def test_the_search_box_finds_a_definition(self):

@@ -31,35 +31,41 @@ NEW_LINE = re.compile(r"^\s*(pub |fn |///|#\[|where$|\}|\)|$)")
 # it leaves to other pages, the page that a reader has read before, and what it says in plain words.
 Believed = collections.namedtuple("Believed", "page title crate roots without after said")
 BELIEVED = [
-    Believed("believe-slice", "a slice as P4", "stlslice", ["run"], ["Reads", "IsFaultOf", "pngs", "report_text", "box_text", "probe_result"], "",
-             "A run reads facets, checks that they are closed, places a grid and writes one image a layer. The centre of each pixel "
-             "is a point at half a pitch in its cell. The ray from it along x crosses facets, each with the sign of its winding. "
-             "The pixel is 1 exactly if the rule calls the sum inside. If something is wrong, the run ends with one fault and has "
-             "written nothing, unless writing failed."),
+    Believed("believe-slice", "a slice as P4", "stlslice", ["run", "RunFault.run_fault_text"],
+             ["Reads", "IsFaultOf", "pngs", "report_text", "box_text", "probe_result"], "",
+             "A run reads facets, checks that they are closed, places a grid and writes one image a layer. The centre of a pixel "
+             "lies half a pitch, and half a layer height, from its cell's least corner. The ray from it along x crosses facets, "
+             "each with the sign of its winding. The pixel is 1 exactly if the rule calls the sum inside. If something is wrong, "
+             "the run ends with one fault and has written nothing, unless writing failed. [`written_pixels`] says the same by "
+             "facets, loops and pixels (`IsSlicedFrom`)."),
     Believed("believe-text", "how a text reads as facets", "stl_text", ["Text.Reads", "Text.IsFaultOf"], [], "",
-             "A text is ASCII STL if it is some solids, each a name and facets of three corners. Words stand between white space, "
-             "and keywords are read in any case. A number is a decimal, whose exact value is rounded once to a whole micrometre, "
-             "halves away from zero. At most so many facets are read as the limit says. A text that isn't so has exactly one "
-             "fault, at the first word that can't be there."),
-    Believed("believe-png", "PNG", "stlslice", ["SlicedText.pngs"], [], "believe-slice",
+             "A text is ASCII STL if it is some solids, each a name and facets of three corners. Words stand between white "
+             "space, and keywords are read in any case. A number is a decimal, whose exact value is rounded once to a whole "
+             "micrometre, halves away from zero. At most so many facets are read as the limit says. A text that isn't so has "
+             "exactly one fault, at the first word that can't be there."),
+    Believed("believe-png", "PNG", "stlslice", ["SlicedText.pngs"], ["IsPng"], "believe-slice",
              "A layer as PNG is the signature and three chunks, each with its length and its check sum. Its rows are packed with "
-             "the leftmost pixel in the highest bit, and none is filtered. They are compressed as one block of runs. A reader "
-             "is defined too, after ISO 15948 and RFC 1950 and 1951. It finds exactly the layer's pixels in these bytes."),
+             "the leftmost pixel in the highest bit, and none is filtered. They are compressed as one block of runs. A reader, "
+             "defined from ISO 15948 and RFC 1950 and 1951, finds exactly the layer's pixels there ([`written_pixels`])."),
+    Believed("believe-reader", "a reader of PNG", "layer_png", ["Png.IsPng", "Stream.cut_pngs"], [], "",
+             "A PNG is the signature and the chunks IHDR, IDAT and IEND, each with length and CRC. The data of IDAT are one zlib "
+             "stream with its Adler-32. Its codes are complete; of distances there may be none, or one word of one bit. A row is "
+             "a filter type and bytes, to which the filter adds by those at the left and above. A stream is cut behind each IEND."),
     Believed("believe-box", "box, report and probe", "stlslice", ["Outcome.box_text", "SlicedText.report_text", "Outcome.probe_result"], [],
              "believe-slice",
-             "The box is the number of all facets that were read, with the least and greatest coordinates of their corners. "
-             "The report has a line a layer: how many loops its plane has, and how many pixels are filled. "
-             "A loop is a closed cycle of the segments in which the plane cuts facets. Its last line has the sum of the areas. "
-             "The probe tells the signed crossings of one voxel's rays along x and along y."),
-    Believed("believe-words", "words", "task_words", ["read_words"], [], "",
+             "The box is the number of all facets that were read, with the least and greatest coordinates of their corners. The "
+             "report has a line a layer: how many loops its plane has, and how many pixels are filled. A loop is a closed cycle "
+             "of the segments in which the plane cuts facets. The report's last line has the sum of the areas. The probe tells "
+             "the signed crossings of one voxel's rays along x and along y."),
+    Believed("believe-words", "words", "task_words", ["read_words", "wants_progress", "WordFault.word_fault_text"], [], "",
              "The words are uses of the options of a table, each at most once and with a value that it takes. What is not given "
              "has its default. The box goes before the probe, the probe before the report, the report before PNGs. If a text is "
              "wrong or something is missing, the fault is the first in the documented order. If the words ask for help or the "
              "version, that is told as a refusal."),
     Believed("believe-mask", "stlslice_mask", "stlslice_c", ["stlslice_mask"], [], "",
              "This is the image of one layer, as a caller in C gets it. The handle has an opened mesh, or none. With a mesh, the "
-             "image of layer k is put into the buffer, if that is large enough. Else only the size that it needs is put. Any other "
-             "status leaves all of the caller's as it was."),
+             "image of layer k is put into the buffer, if that is large enough. Else only the size that it needs is put. Any "
+             "other status leaves all of the caller's as it was."),
 ]
 
 
@@ -67,7 +73,10 @@ class Names:
     """Where the names of the sources lead to."""
 
     def __init__(self, crates):
-        self.crates = crates
+        self.crates, self.examples = crates, collections.defaultdict(list)
+        for scope, label, said, head, rest in (it for crate in crates.values() for it in crate.examples):
+            if head in scope and len(said) <= 130:
+                self.examples[self.imported(scope, head, rest)].append((label.replace("_", " "), said))
 
     def place(self, entry):
         """The page and the mark of an entry."""
@@ -243,11 +252,8 @@ def section(names, entry, crate):
 
 
 def example(names, entry):
-    """The shortest proved statement that begins with a definition."""
-    if not entry.path.endswith(".antt"):
-        return ""
-    found = [it for crate in names.crates.values() for it in crate.examples.get(entry.name, []) if len(it[1]) <= 130]
-    label, said = min(found, key=lambda it: len(it[1]), default=("", ""))
+    """The shortest proved statement that begins with an item or a definition."""
+    label, said = min(names.examples.get(entry, []), key=lambda it: len(it[1]), default=("", ""))
     return f'<p class="soft">For example, {label}: <code>{html.escape(said)}</code></p>' if said else ""
 
 
@@ -322,23 +328,30 @@ def roots_of(names, it):
     return [crate.definitions[root.split(".")[0]][root.split(".")[1]] if "." in root else crate.items[root] for root in it.roots]
 
 
+def left_out(it):
+    """The pages to which a page leaves something."""
+    return [other for other in BELIEVED if {root.split(".")[-1] for root in other.roots} & {*it.without}]
+
+
+def sized(order):
+    return f"{len(order)} entries with {sum(entry.lines() for entry in order)} lines"
+
+
 def believe_page(names, it):
-    """The page, and how many entries and lines it has."""
+    """The page, and its entries."""
     order, outside = believed(names, roots_of(names, it), it.without)
-    before = next((other for other in BELIEVED if other.page == it.after), None)
-    known = believed(names, roots_of(names, before), before.without)[0] if before else []
+    before = [other for other in BELIEVED if other.page == it.after]
+    known = [entry for other in before for entry in believed(names, roots_of(names, other), other.without)[0]]
     order = [entry for entry in order if entry not in known]
-    count = sum(entry.lines() for entry in order)
-    left = [other for other in BELIEVED if {root.split(".")[-1] for root in other.roots} & {*it.without}]
-    body = [f"<h1>What you have to believe: {it.title}</h1>", f"<p>{it.said}</p>",
-            f"<p>The promise comes first, then each definition where it is first needed. There are {len(order)} entries with {count} "
-            "lines, comments aside. That the promise holds is proved. Whether it says what you want, only reading tells.</p>"]
-    for said, others in (("What stands there already is left out here", [before] if before else []), ("On pages of their own", left)):
+    body = [f"<h1>What you have to believe: {it.title}</h1>", prose(names, names.crates[it.crate], it.said),
+            f"<p>A promise comes first, then each definition where it is first needed. There are {sized(order)}, comments "
+            "aside. That the promise holds is proved. Whether it says what you want, only reading tells.</p>"]
+    for said, others in (("What stands there already is left out here", before), ("On pages of their own", left_out(it))):
         links = ", ".join(f'<a href="{other.page}.html">{other.title}</a>' for other in others)
         body += [f"<p>{said}: {links}.</p>"] * bool(others)
     body += [f'<p class="soft">From outside the repository: {external(outside)}.</p>']
     body += [section(names, entry, names.crates[entry.crate]).replace('<h3 id="', f'<h3 id="{entry.crate}.', 1) for entry in order]
-    return page(f"What you have to believe: {it.title}", within("\n".join(body))), len(order), count
+    return page(f"What you have to believe: {it.title}", within("\n".join(body))), order
 
 
 def within(text):
@@ -356,12 +369,15 @@ def external(outside):
     return "; ".join(f"<code>{path}</code> ({html.escape(', '.join(sorted(found)))})" for path, found in sorted(outside.items()))
 
 
-def index_page(names, rows):
-    """The first page: what to believe, then the crates from the lowest up."""
+def index_page(names, orders):
+    """The first page: what to believe, and how much stands on a page that it can't do without; then the crates, lowest first."""
     body = ["<h1>The reference of stlslice</h1>",
             "<p>What each crate promises, from its sources. Each name in a contract leads to its definition. "
             "<code>docs/PROVED.md</code> has the promises in short.</p>", "<h2>What you have to believe</h2>", "<ul>"]
-    body += [f'<li><a href="{it.page}.html">{it.title}</a>: {entries} entries, {count} lines.</li>' for it, entries, count in rows]
+    for it in BELIEVED:
+        more = [f", and {sized([entry for entry in orders[other.page] if entry not in orders[it.page]])} more on {other.title}"
+                for other in left_out(it) if other.after != it.page]
+        body.append(f'<li><a href="{it.page}.html">{it.title}</a>: {sized(orders[it.page])}{"".join(more)}.</li>')
     body += ["</ul>", "<h2>Crates, from the lowest up</h2>", "<table>"]
     for crate in names.crates.values():
         if crate.public or crate.definitions:
@@ -383,30 +399,29 @@ def search_entries(names):
 
 def pages(names):
     """Each file of the reference with its text."""
-    rows = []
+    yield "entries.js", search_entries(names)
+    orders = {}
     for it in BELIEVED:
-        text, entries, count = believe_page(names, it)
-        rows.append((it, entries, count))
+        text, orders[it.page] = believe_page(names, it)
         yield f"{it.page}.html", text
     for crate in names.crates.values():
         if crate.public or crate.definitions:
             yield f"{crate.name}.html", crate_page(names, crate)
         if crate.definitions:
             yield f"{crate.name}.specs.html", specs_page(names, crate)
-    yield "index.html", index_page(names, rows)
-    yield "entries.js", search_entries(names)
+    yield "index.html", index_page(names, orders)
 
 
 def main():
-    if len(sys.argv) != 2:
+    if len(sys.argv) != 2 or sys.argv[1].startswith("-"):
         sys.exit("use: reference.py FOLDER")
     folder = sys.argv[1]
+    if os.path.exists(folder) and os.listdir(folder) and not os.path.exists(os.path.join(folder, "entries.js")):
+        sys.exit(f"{folder} has something else: name a new folder, or that of a reference")
     shutil.rmtree(folder, ignore_errors=True)
     os.makedirs(folder)
     names = Names(sources.crates_of(ROOT))
-    count = 0
-    for name, text in pages(names):
-        count += 1
+    for count, (name, text) in enumerate(pages(names), 1):
         with open(os.path.join(folder, name), "w", encoding="utf-8") as file:
             file.write(text)
     for name in ("reference.css", "reference.js"):

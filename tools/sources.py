@@ -13,7 +13,7 @@ DEFINITION = re.compile(r"^(?:  (?=abbrev |unfoldable ))?(?:abbrev |unfoldable )
 ITEM = re.compile(r'^(\s*)(pub |pub\(crate\) |)(?:const (?=fn)|unsafe |extern "C" )*(fn|struct|enum|trait|const|type) (\w+)')
 TRAIT_IMPL = re.compile(r"^impl(?:<.*?>)? ([\w:]+)(?:<.*?>)? for (\w+)")
 OWN_IMPL = re.compile(r"^impl(?:<.*?>)? (\w+)")
-EXAMPLE = re.compile(r"(?m)^(\w+) : ((?:\w+\.)?([\w-]+) .*[^→\n])\n(?:unfolding .*\n)?\1 =")
+EXAMPLE = re.compile(r"(?m)^(\w+) : (([\w-]+)(?:\.([\w-]+))? .*[^→\n])\n(?:unfolding .*\n)?\1 =")
 CLAUSE = re.compile(r"^\s*(?:pub )?(?:requires|ensures|decreases|ghost)\b")
 
 
@@ -36,7 +36,7 @@ class Crate:
     def __init__(self, name, below):
         self.name, self.below = name, below
         self.front, self.public = "", []
-        self.definitions, self.heads, self.items, self.examples = {}, {}, {}, {}
+        self.definitions, self.heads, self.items, self.examples = {}, {}, {}, []
 
 
 def text_of(path):
@@ -66,8 +66,8 @@ def read_crate(root, name, below):
     for path in sorted(glob.glob(f"{folder}/src/**/*.rt", recursive=True)):
         read_items(crate, os.path.relpath(path, root), text_of(path))
     for path in sorted(glob.glob(f"{folder}/proofs/examples/*.antt")):
-        for label, said, name in EXAMPLE.findall(text_of(path)):
-            crate.examples.setdefault(name, []).append((label.replace("_", " "), said))
+        text = text_of(path)
+        crate.examples += [(scope_of(text), *found) for found in EXAMPLE.findall(text)]
     front = os.path.join(folder, "src", "lib.rt")
     if os.path.exists(front):
         read_front(crate, text_of(front))
@@ -92,24 +92,25 @@ def scope_of(text):
         for name in re.split(r", ", names):
             there, _, here = name.partition(" as ")
             scope[here or there] = (path, there)
-    for path, here in re.findall(r"(?m)^\s*(?:ghost )?use ([\w.]+) as ([\w-]+);?$", text):
-        scope[here] = (path, "")
+    for path, here in re.findall(r"(?m)^\s*(?:ghost )?use ([\w.]+)(?: as ([\w-]+))?;?$", text):
+        scope[here or path.split(".")[-1]] = (path, "")
     return scope
 
 
 def definitions(crate, path, text):
-    """The definitions of a file of `specs/`, each with the comment above it."""
+    """The definitions of a file of `specs/`, each with the comment above it and the line of its module."""
     lines, scope, found, comment = text.splitlines(), scope_of(text), {}, []
-    at = 0
+    at, module = 0, ""
     while at < len(lines):
         named = DEFINITION.match(lines[at])
         if named and not lines[at].startswith("pub mod"):
             end = end_of_definition(lines, at)
-            body = "\n".join(lines[at:end]).rstrip()
+            body = "\n".join([module] * lines[at].startswith(" ") + lines[at:end]).rstrip()
             kind = "record" if " record " in lines[at] else "data" if " data " in lines[at] else "definition"
             found[named[1]] = Entry(crate.name, kind, named[1], path, at + 1, "\n".join(comment), body, scope)
             at, comment = end, []
         else:
+            module = lines[at] if lines[at].startswith("module ") else module
             comment = comment + [lines[at].strip()[3:]] if lines[at].strip().startswith("--") else []
             at += 1
     return found
@@ -121,9 +122,10 @@ def constructors(entry):
 
 
 def end_of_definition(lines, at):
-    """The line after a definition: the next one begins, or a comment after a blank line."""
+    """The line after a definition: the next one begins, or a module, or a comment after a blank line."""
     for end in range(at + 1, len(lines)):
-        if DEFINITION.match(lines[end]) or (lines[end].strip().startswith("--") and not lines[end - 1].strip()):
+        is_comment = lines[end].strip().startswith("--") and not lines[end - 1].strip()
+        if is_comment or lines[end].startswith("module ") or DEFINITION.match(lines[end]):
             while lines[end - 1].strip().startswith("--"):
                 end -= 1
             return end

@@ -16,6 +16,7 @@ use Rattle.plane_segments.specs.Segment.{is_segment}
 abbrev pub rank_at_end : List Segment → Segment → ℕ
 rank_at_end list s = position_or_len (is_segment s) (filter (λ t. is_node t.to s.to) list)
 
+-- the segment after s: of those that start where s ends, the one with the rank of s
 abbrev pub follower : List Segment → Segment → Option Segment
 follower list s = slice_get (filter (λ t. is_node t.from s.to) list) (rank_at_end list s)
 
@@ -33,6 +34,7 @@ cycle list s = run_from list s (length list) s
 abbrev pub is_leader : List Segment → Segment → Bool
 is_leader list s = list_all (λ t. nat_le s.facet t.facet) (cycle list s)
 
+-- the cycles, each from its least facet, in order of these
 abbrev pub loops : List Segment → List (List Segment)
 loops list = map (cycle list) (filter (is_leader list) list)
 

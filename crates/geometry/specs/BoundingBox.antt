@@ -7,9 +7,11 @@ use Rattle.std.specs.Int.{int_min, int_max}
 use Rattle.geometry.specs.Point.{Point}
 use Rattle.geometry.specs.Facet.{Facet, corners}
 
+-- the least of both in each coordinate
 abbrev pub least_of : Point → Point → Point
 least_of p q = record { x = int_min p.x q.x; y = int_min p.y q.y; z = int_min p.z q.z }
 
+-- the greatest of both in each coordinate
 abbrev pub greatest_of : Point → Point → Point
 greatest_of p q = record { x = int_max p.x q.x; y = int_max p.y q.y; z = int_max p.z q.z }
 

@@ -3,6 +3,7 @@
 -- that the two agree.
 use Rattle.std.specs.Prelude.{Bool, ◌&&◌, ℤ, int_le, int_lt, ◌≤ℤ◌, ◌<ℤ◌}
 
+-- the height of the plane itself counts as below
 abbrev pub is_below : ℤ → ℤ → Bool
 is_below height plane = int_le height plane
 

@@ -7,6 +7,7 @@ use Rattle.geometry.specs.Facet.{Facet, Edge, edges}
 abbrev pub half_edge_count : List Facet → Point → Point → ℕ
 half_edge_count facets u v = count_by (λ e. same e.from u && same e.to v) (edges facets)
 
+-- a mesh is closed: as many half-edges run from any point to another as back
 abbrev pub IsBalanced : List Facet → Type 0
 IsBalanced facets = (u v : Point) → half_edge_count facets u v ≡ half_edge_count facets v u
 

@@ -6,6 +6,7 @@ use Rattle.geometry.specs.Point.{Point, origin, same, is_before}
 use Rattle.geometry.specs.Facet.{Facet, corners, facet_with, greatest_z, least_z}
 use Rattle.mesh_weld.specs.declared.height_order.HeightRange.{HeightRange}
 
+-- the facets that are kept, and how many are dropped
 pub record Solid : Type 0 where
   pub facets : List Facet
   pub dropped : ℕ
@@ -18,6 +19,7 @@ is_kept t = not (same t.a t.b || same t.b t.c || same t.c t.a)
 abbrev pub HaveDistinctCorners : List Facet → Type 0
 HaveDistinctCorners facets = All (λ t. is_kept t ≡ true) facets
 
+-- the facets that are not degenerate, in order
 abbrev pub kept_facets : List Facet → List Facet
 kept_facets facets = filter is_kept facets
 

@@ -16,6 +16,7 @@ use Rattle.micro_num.specs.declared.limits.TheConstants.{INCH_FACTOR, WORD_LIMIT
 abbrev pub digits_value : List ℕ → ℕ
 digits_value ds = fold (λ n d. 10 * n + (d - 48)) 0 ds
 
+-- a number with a sign
 abbrev pub with_sign : Sign → ℕ → ℤ
 with_sign unsigned n = pos n
 with_sign plus n = pos n
@@ -44,6 +45,7 @@ abbrev pub unit_factor : LengthUnit → ℕ
 unit_factor Millimetre = 1
 unit_factor Inch = INCH_FACTOR
 
+-- the power of ten of a unit, beside its factor
 abbrev pub unit_power : LengthUnit → ℕ
 unit_power Millimetre = 3
 unit_power Inch = 2
@@ -60,9 +62,11 @@ micro unit n = with_sign n.sign (magnitude (unit_factor unit * digits_value (man
 abbrev pub is_coordinate : ℤ → Bool
 is_coordinate z = nat_le (nat_abs z) COORDINATE_LIMIT
 
+-- the coordinate, if it is in range
 abbrev pub coordinate_or_fault : ℤ → Result ℤ NumFault
 coordinate_or_fault z = if is_coordinate z then Ok z else Err OutOfRange
 
+-- the coordinate of a word that is a number, or the fault
 abbrev pub numeral_coordinate : LengthUnit → Option Numeral → Result ℤ NumFault
 numeral_coordinate unit None = Err NotNumber
 numeral_coordinate unit (Some n) = coordinate_or_fault (micro unit n)

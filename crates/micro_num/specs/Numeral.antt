@@ -63,6 +63,7 @@ mantissa_digits n = n.whole ++ fraction_digits n.fraction
 abbrev pub are_digits : List ℕ → Bool
 are_digits ds = nat_lt 0 (length ds) && list_all is_ascii_digit ds
 
+-- there is no exponent, or its mark and its digits are right
 abbrev pub is_exponent : Option Exponent → Bool
 is_exponent None = true
 is_exponent (Some e) = is_exponent_mark e.mark && are_digits e.digits
@@ -77,10 +78,12 @@ IsSpelled word = (length word ≤ WORD_LIMIT) × (n : Numeral) × IsNumeral n ×
 
 -- The parts of a word: it is cut at its first `e` or `E`, and the text before that is cut at its first point.
 
+-- the sign, by the first byte: `+`, `-` or another
 abbrev pub sign_of : List ℕ → Sign
 sign_of [] = unsigned
 sign_of (byte ∷ rest) = if byte == 43 then plus else (if byte == 45 then minus else unsigned)
 
+-- what stands behind the sign, or all if there is none
 abbrev pub after_sign : List ℕ → List ℕ
 after_sign [] = []
 after_sign (byte ∷ rest) = if byte == 43 || byte == 45 then rest else byte ∷ rest
@@ -99,6 +102,7 @@ abbrev pub exponent_of : List ℕ → Option Exponent
 exponent_of [] = None
 exponent_of (mark ∷ rest) = Some (record { mark = mark; sign = sign_of rest; digits = after_sign rest })
 
+-- sign, whole part, fraction and exponent of a word
 abbrev pub parts_of : List ℕ → Numeral
 parts_of word =
     let unsigned_part : List ℕ = after_sign word in

@@ -14,13 +14,15 @@ use Rattle.plane_segments.specs.declared.segment.Segment.{Segment}
 abbrev pub height : Point → ℤ
 height p = pos 2 *ℤ p.z
 
--- an edge that passes the height z upward, and one that passes it downward
+-- an edge that passes the height z upward
 abbrev pub is_upward : ℤ → Edge → Bool
 is_upward z e = rises_through (height e.from) (height e.to) z
 
+-- an edge that passes the height z downward
 abbrev pub is_downward : ℤ → Edge → Bool
 is_downward z e = rises_through (height e.to) (height e.from) z
 
+-- f of both, if there are both
 abbrev pub both_of : {A B C : Type 0} → (A → B → C) → Option A → Option B → Option C
 both_of f None b = None
 both_of f (Some a) None = None
@@ -48,6 +50,7 @@ segment_of points z numbered =
     (find (is_downward z) (half_edges numbered.1))
     (find (is_upward z) (half_edges numbered.1))
 
+-- the segments at the height z, in order of facets
 abbrev pub segments : List Facet → ℤ → List Segment
 segments facets z = filter_map (segment_of (vertices facets) z) (enumerate_from 0 facets)
 

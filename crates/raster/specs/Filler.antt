@@ -17,6 +17,7 @@ use Rattle.raster.specs.Rows.{are_within}
 use Rattle.raster.specs.Rule.{is_inside}
 use Rattle.raster.specs.Span.{AreSpans, are_apart, covers}
 
+-- the signed crossings of the ray from this centre are inside by the rule
 abbrev pub is_filled : Rule → List Facet → Point → Bool
 is_filled rule facets c = is_inside rule (ray facets c)
 

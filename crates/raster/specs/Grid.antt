@@ -12,6 +12,7 @@ use Rattle.geometry.specs.BoundingBox.{Bounds, bounds}
 use Rattle.geometry.specs.declared.limits.TheConstants.{CENTRE_LIMIT, COLUMN_LIMIT, LAYER_LIMIT}
 use Rattle.geometry.specs.Limits.{IsStep}
 
+-- a grid: its least corner, the sizes of a cell, and how many cells there are along x, y and z
 pub record Grid : Type 0 where
   pub origin : Point
   pub pitch : ℕ
@@ -67,12 +68,15 @@ cell_count low high step = max 1 (div_ceil (nat_abs (high -ℤ low)) step)
 abbrev pub exceeds : ℕ → ℕ → ℕ → Bool
 exceeds columns rows layers = nat_lt COLUMN_LIMIT columns || nat_lt COLUMN_LIMIT rows || nat_lt LAYER_LIMIT layers
 
+-- the grid has too many columns, rows or layers
 abbrev pub is_too_large : Grid → Bool
 is_too_large g = exceeds g.columns g.rows g.layers
 
+-- the fault that tells its counts
 abbrev pub too_large : Grid → GridFault
 too_large g = TooLarge g.columns g.rows g.layers
 
+-- the grid, unless it is too large
 abbrev pub within_limits : Grid → Result Grid GridFault
 within_limits g = if is_too_large g then Err (too_large g) else Ok g
 
@@ -94,9 +98,11 @@ grid_of_box (Some b) pitch layer_height =
 abbrev pub fitted_grid : List Facet → ℕ → ℕ → Result Grid GridFault
 fitted_grid facets pitch layer_height = grid_of_box (bounds facets) pitch layer_height
 
+-- a count is 0
 abbrev pub has_no_cells : Grid → Bool
 has_no_cells g = g.columns == 0 || g.rows == 0 || g.layers == 0
 
+-- the centre of its last cell is beyond CENTRE_LIMIT in x, y or z
 abbrev pub reaches_too_far : Grid → Bool
 reaches_too_far g =
     let last : Point = centre g (g.columns - 1) (g.rows - 1) (g.layers - 1) in

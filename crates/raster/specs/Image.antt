@@ -16,6 +16,7 @@ packed_byte pixel m = sum_by (λ b. if pixel (8 * m + b) then 2 ^ (7 - b) else 0
 abbrev pub row_bytes : ℕ → (ℕ → Bool) → List ℕ
 row_bytes width pixel = map (packed_byte (λ i. nat_lt i width && pixel i)) (below (div_ceil width 8))
 
+-- the header of a P4 image: its width and height in pixels
 abbrev pub header : ℕ → ℕ → List ℕ
 header width height = codes "P4\n" ++ decimal width ++ codes " " ++ decimal height ++ codes "\n"
 

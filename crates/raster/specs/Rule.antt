@@ -10,6 +10,7 @@ IsInside EvenOdd crossings = nat_abs crossings % 2 ≡ 1
 IsInside NonZero crossings = crossings ≢ pos 0
 IsInside Positive crossings = pos 0 <ℤ crossings
 
+-- the same as a test: odd, not zero, or above zero
 abbrev pub is_inside : Rule → ℤ → Bool
 is_inside EvenOdd count = nat_abs count % 2 == 1
 is_inside NonZero count = not (int_eq count (pos 0))

@@ -1,5 +1,5 @@
-//! Runs of `--box`, and texts that are misread by each task: no clause says that a run succeeds, nor which line a fault
-//! prints.
+//! Runs of `--box`, and texts that are misread by each task: no clause says that a run succeeds, nor that the line of a fault
+//! is printed.
 use crate::answers::{Told, all_written, refuses};
 use crate::meshes::Mesh::{Boxes, Parts, Text};
 use crate::meshes::{FLAT, OPEN, SPIKED, mesh_text};

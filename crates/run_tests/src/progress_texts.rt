@@ -1,4 +1,4 @@
-//! Tests the texts that show progress, on a terminal and elsewhere. No clause speaks of a `Display`.
+//! Tests the texts that show progress, on a terminal and elsewhere. No clause speaks of these.
 use progress_line::{Bar, BarText, Images, Phase};
 use std::alloc::Global;
 

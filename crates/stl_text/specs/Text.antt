@@ -37,6 +37,7 @@ after_space bytes = drop (prefix_len is_white bytes) bytes
 abbrev pub first_word : List ℕ → List ℕ
 first_word bytes = before_first is_white (after_space bytes)
 
+-- the text after the first word
 abbrev pub after_word : List ℕ → List ℕ
 after_word bytes = from_first is_white (after_space bytes)
 
@@ -67,11 +68,13 @@ keywords Number = []
 keywords EndLoop = codes "endloop" ∷ []
 keywords EndFacet = codes "endfacet" ∷ []
 
+-- the text is in the list
 abbrev pub is_one_of : List ℕ → List (List ℕ) → Bool
 is_one_of text [] = false
 is_one_of text (k ∷ []) = bytes_eq text k
 is_one_of text (k ∷ l ∷ ks) = bytes_eq text k || is_one_of text (l ∷ ks)
 
+-- the text of a list that has one
 abbrev pub only_one : List (List ℕ) → List ℕ
 only_one [] = []
 only_one (k ∷ []) = k
@@ -87,6 +90,7 @@ HasOneKeyword kind = length (keywords kind) ≡ 1
 
 -- Tokens of the grammar. A keyword has the kind of word that is wanted there, and its text.
 
+-- what a text is made of: a keyword, any word (of a normal), a coordinate, and all up to the end of the line
 pub data Token : Type 0 where
   keyword : Word → List ℕ → Token
   normal_word : Token
@@ -103,12 +107,15 @@ facet_word = keyword FacetOrEnd facet_keyword
 abbrev pub end_word : Token
 end_word = keyword FacetOrEnd end_keyword
 
+-- what a corner is written with
 abbrev pub vertex_tokens : Point → List Token
 vertex_tokens p = keyword_of Vertex ∷ coordinate p.x ∷ coordinate p.y ∷ coordinate p.z ∷ []
 
+-- what a normal is written with: any three words
 abbrev pub normal_tokens : List Token
 normal_tokens = keyword_of Normal ∷ normal_word ∷ normal_word ∷ normal_word ∷ []
 
+-- what the three corners are written with
 abbrev pub loop_tokens : Facet → List Token
 loop_tokens t =
     (keyword_of Outer ∷ keyword_of Loop ∷ [])
@@ -135,6 +142,7 @@ begins_with unit normal_word bytes = nat_lt 0 (length (first_word bytes))
 begins_with unit (coordinate z) bytes = is_read_as z (first_word bytes) unit
 begins_with unit rest_of_line bytes = true
 
+-- the text after a token
 abbrev pub after_token : Token → List ℕ → List ℕ
 after_token rest_of_line bytes = after_line bytes
 after_token (keyword wanted text) bytes = after_word bytes
@@ -147,6 +155,7 @@ rest_after unit [] bytes = Some bytes
 rest_after unit (token ∷ tokens) bytes =
     if begins_with unit token bytes then rest_after unit tokens (after_token token bytes) else None
 
+-- the facets of all solids
 abbrev pub facets_of : List (List Facet) → List Facet
 facets_of solids = flat_map (λ facets. facets) solids
 
@@ -168,6 +177,7 @@ wanted normal_word = Some Number
 wanted (coordinate z) = Some Number
 wanted rest_of_line = None
 
+-- the token is the keyword `facet`
 abbrev pub is_facet_word : Token → Bool
 is_facet_word (keyword wanted text) = is_keyword text facet_keyword
 is_facet_word normal_word = false

@@ -37,12 +37,14 @@ line_text count (Some corners) =
 abbrev pub box_text : List Facet → List ℕ
 box_text facets = line_text (length facets) (extent facets)
 
+-- the unit of a task
 abbrev pub unit_of : Task → LengthUnit
 unit_of (task.Box unit) = unit
 unit_of (task.Slice unit pitch layer rule workers report grid) = unit
 unit_of (task.Png unit pitch layer rule workers grid depth mirrors) = unit
 unit_of (task.Probe unit pitch layer grid i j k) = unit
 
+-- the task is the box
 abbrev pub is_box : Task → Bool
 is_box (task.Box unit) = true
 is_box (task.Slice unit pitch layer rule workers report grid) = false
@@ -61,6 +63,7 @@ abbrev pub placing_of : Option Given → Placing
 placing_of None = placing.Fitted
 placing_of (Some given) = placing.Given given.columns given.rows given.layers given.origin
 
+-- the grid that is given, or else the one that fits, or why there is none
 abbrev pub grid_for : Option Given → ℕ → ℕ → List Facet → Result Grid GridFault
 grid_for given pitch layer facets = placed_grid (placing_of given) facets pitch layer
 
@@ -69,6 +72,7 @@ abbrev pub with_grid : (Grid → Result (List ℕ) RunFault) → Result Grid Gri
 with_grid f (Ok g) = f g
 with_grid f (Err cause) = Err (fault.Grid cause)
 
+-- the line of a probe, or the fault if there is no such voxel
 abbrev pub probed_text : ℕ → ℕ → ℕ → List Facet → Grid → Result (List ℕ) RunFault
 probed_text i j k facets g =
     if is_voxel g i j k then Ok (probe_text g facets i j k) else Err (fault.Outside g.columns g.rows g.layers)

@@ -23,7 +23,8 @@ IsRunFault t input (cause.Outside columns rows layers) = IsOutcome t input (Err 
 abbrev pub OfInput : Option (List ℕ) → (List ℕ → Type 0) → Type 0
 OfInput known says = (input : List ℕ) × IsInput known input × says input
 
--- What a run promises. Where the source is unknown, a known sink still has the outcome's text of some input, or its first bytes.
+-- What a run of a task promises. `is_settled` is whether the sink says that all is flushed. Where the source is unknown, a known
+-- sink still has the outcome's text of some input, or its first bytes.
 pub record IsRun {T : Type 0} (t : Task) (result : Result T RunFault) (source sink : Transcript) (is_settled : Bool) : Type 0 where
   -- all was read, also if the run ends with a fault of its text, unless reading or memory failed
   pub whole : result ≢ Err cause.Read → result ≢ Err cause.Memory → IsAtEnd source.new

@@ -13,6 +13,7 @@ use Rattle.layer_png.specs.declared.mirrors.Mirrors.{Mirrors}
 use Rattle.stlslice.specs.declared.write.Output.{Output}
 use Rattle.stlslice.specs.declared.write.Output.TheVariants as output
 
+-- the line of a layer in the report
 abbrev pub line_of_layer : ℕ → ℕ → ℕ → List ℕ
 line_of_layer number loops area =
     codes "layer " ++ (decimal number ++ (codes " loops " ++ (decimal loops ++ (codes " area " ++ (decimal area ++ codes "\n")))))
@@ -21,6 +22,7 @@ line_of_layer number loops area =
 abbrev pub layer_line : Grid → Rule → List Facet → ℕ → List ℕ
 layer_line g rule facets k = line_of_layer k (length (loops (segments facets (plane g k)))) (area_of g rule facets k)
 
+-- the last line of the report
 abbrev pub total_line : ℕ → List ℕ
 total_line total = codes "total " ++ (decimal total ++ codes "\n")
 

@@ -1,3 +1,4 @@
+pub mod examples
 pub mod Asked
 pub mod Matching
 pub mod Parse

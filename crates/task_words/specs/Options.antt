@@ -10,6 +10,7 @@ use Rattle.clap.specs.Lexer.{long_of, short_of}
 use Rattle.clap.specs.declared.error.kind.ErrorKind.{ErrorKind}
 use Rattle.clap.specs.declared.error.kind.ErrorKind.TheVariants as kind
 
+-- a text by its bytes
 abbrev pub Text : Type 0
 Text = List ℕ
 
@@ -39,6 +40,7 @@ pub data Asked : Type 0 where
   asks_for_version : Asked
   asks_nothing : Asked
 
+-- what a kind of refusal of `clap` answers
 abbrev pub asked_by : ErrorKind → Asked
 asked_by kind.DisplayHelp = asks_for_help
 asked_by kind.DisplayVersion = asks_for_version
@@ -86,6 +88,7 @@ are_lawful (u ∷ before) = are_lawful before && (not (is_given u.option.name be
 abbrev pub if_lawful : List Use → Said → Said
 if_lawful before said = if are_lawful before then said else wrong
 
+-- the option has a value
 abbrev pub takes_value : Kind → Bool
 takes_value flag = false
 takes_value any_text = true
@@ -93,6 +96,7 @@ takes_value (number most) = true
 takes_value help = false
 takes_value version = false
 
+-- one use more
 abbrev pub used : Known → Text → List Use → List Use
 used o value before = record { option = o; value = value } ∷ before
 
@@ -112,6 +116,7 @@ alone_says o version before rest = if_lawful before asks_version
 abbrev pub joined_says : Known → Text → List Use → Rest → Said
 joined_says o value before rest = if takes_value o.kind then rest None (used o value before) else wrong
 
+-- a word that begins with two hyphens: the option of its name, if there is one, alone or with a value
 abbrev pub long_says : Option Known → Option Text → List Use → Rest → Said
 long_says None value before rest = wrong
 long_says (Some o) None before rest = alone_says o o.kind before rest
@@ -130,14 +135,17 @@ letter_of word = option_and_then (λ letters. slice_get (chars letters) 0) (shor
 abbrev pub is_option_word : Text → Bool
 is_option_word word = bytes_eq word (codes "--") || (is_some (long_of word) || is_some (letter_of word))
 
+-- no word follows
 abbrev pub is_last : List Text → Bool
 is_last [] = true
 is_last (word ∷ rest) = false
 
 module _ (options : List Known) where
+  -- the option that is written `--NAME`
   abbrev pub option_named : Text → Option Known
   option_named name = find (λ o. bytes_eq o.name name) options
 
+  -- the option that is also written `-` and this letter
   abbrev pub option_of_letter : ℕ → Option Known
   option_of_letter letter = find (λ o. option_map_or (λ l. l == letter) o.letter false) options
 
@@ -146,6 +154,7 @@ module _ (options : List Known) where
   other_says None before = wrong
   other_says (Some letter) before = letter_says (option_of_letter letter) before
 
+  -- a word with two hyphens, by its name and the value behind an equals sign; or another word
   abbrev pub option_says : Text → Option (Text × Option Text) → List Use → Rest → Said
   option_says word None before rest = other_says (letter_of word) before
   option_says word (Some name) before rest = long_says (option_named name.0) name.1 before rest

@@ -18,17 +18,20 @@ use Rattle.task_words.specs.declared.task.Given.{Given}
 use Rattle.task_words.specs.declared.texts.Fields.{Fields}
 use Rattle.task_words.specs.declared.texts.Voxel.{Voxel}
 
+-- the rule of this name
 abbrev pub rule_named : Text → Option Rule
 rule_named name =
     if bytes_eq name (codes "evenodd") then Some rule.EvenOdd
     else (if bytes_eq name (codes "nonzero") then Some rule.NonZero
     else (if bytes_eq name (codes "positive") then Some rule.Positive else None))
 
+-- the unit of this name
 abbrev pub unit_named : Text → Option LengthUnit
 unit_named name =
     if bytes_eq name (codes "mm") then Some unit.Millimetre
     else (if bytes_eq name (codes "inch") then Some unit.Inch else None)
 
+-- the depth that is written so
 abbrev pub depth_named : Text → Option Depth
 depth_named name =
     if bytes_eq name (codes "8") then Some depth.Eight
@@ -38,6 +41,7 @@ depth_named name =
 abbrev pub is_short_number : Text → Bool
 is_short_number text = is_numeral text && nat_le (length text) 9
 
+-- a number of one to nine digits, without a sign
 abbrev pub count_in : Text → Option ℕ
 count_in text = if is_short_number text then Some (digits_value 10 text) else None
 
@@ -67,11 +71,12 @@ abbrev pub ReadsField : {T : Type 0} → (Text → Option T) → List Text → O
 ReadsField read [] found after = found ≡ None
 ReadsField read (field ∷ rest) found after = (found ≡ read field) × (after ≡ rest)
 
--- the next field as a count or a coordinate, and then those after it
+-- the next field as a count, and then those after it
 abbrev pub count_then : {T : Type 0} → List Text → (ℕ → List Text → Option T) → Option T
 count_then [] next = None
 count_then (field ∷ rest) next = option_and_then (λ n. next n rest) (count_in field)
 
+-- the next field as a coordinate, and then those after it
 abbrev pub coordinate_then : {T : Type 0} → List Text → (ℤ → List Text → Option T) → Option T
 coordinate_then [] next = None
 coordinate_then (field ∷ rest) next = option_and_then (λ z. next z rest) (coordinate_in field)
@@ -81,6 +86,7 @@ abbrev pub at_end : {T : Type 0} → List Text → Option T → Option T
 at_end [] found = found
 at_end (field ∷ rest) found = None
 
+-- at most COORDINATE_LIMIT from 0
 abbrev pub is_near : ℤ → Bool
 is_near z = nat_le (unsigned_abs z) COORDINATE_LIMIT
 
@@ -88,6 +94,7 @@ is_near z = nat_le (unsigned_abs z) COORDINATE_LIMIT
 abbrev pub point_in_range : ℤ → ℤ → ℤ → Option Point
 point_in_range x y z = if is_near x && (is_near y && is_near z) then Some (record { x = x; y = y; z = z }) else None
 
+-- the grid of these counts and this least corner
 abbrev pub given_at : ℕ → ℕ → ℕ → Point → Given
 given_at columns rows layers origin = record { columns = columns; rows = rows; layers = layers; origin = origin }
 

@@ -36,12 +36,12 @@ IsWordStatus words.BadProbe status = status ≡ 2
 IsWordStatus words.BadDepth status = status ≡ 2
 IsWordStatus (words.WithoutPng option) status = status ≡ 2
 
--- options as they are written
-
+-- an option that is missing, as it is written
 abbrev pub wanted_text : Wanted → List ℕ
 wanted_text Pitch = codes "--pitch"
 wanted_text Layer = codes "--layer"
 
+-- an option of PNGs, as it is written
 abbrev pub png_option_text : PngOption → List ℕ
 png_option_text Depth = codes "--depth"
 png_option_text MirrorX = codes "--mirror-x"

@@ -29,6 +29,7 @@ use Rattle.task_words.specs.declared.word_fault.WordFault.TheVariants as fault
 
 -- ---- the options
 
+-- an option without a letter
 abbrev pub row : Text → Kind → Option Text → Known
 row name kind default = record { name = name; letter = None; kind = kind; default = default }
 
@@ -60,6 +61,7 @@ options = settings
 
 -- ---- what is given
 
+-- the value that is given for an option
 abbrev pub given_value : Text → List Use → Option Text
 given_value name uses = option_map (λ u. u.value) (find (λ u. bytes_eq u.option.name name) uses)
 
@@ -71,6 +73,7 @@ value_of name uses = value_or (given_value name uses) (option_and_then (λ o. o.
 abbrev pub number_of : Text → ℕ
 number_of text = digits_value 10 (without_leading_plus text)
 
+-- the number that is the value of an option
 abbrev pub number_given : Text → List Use → Option ℕ
 number_given name uses = option_map number_of (value_of name uses)
 
@@ -79,23 +82,29 @@ abbrev pub if_given : {T : Type 0} → (Text → Option T) → Option Text → O
 if_given read None = Some None
 if_given read (Some text) = option_map (λ t. Some t) (read text)
 
+-- the rule, if its text names one
 abbrev pub rule_given : List Use → Option Rule
 rule_given uses = option_and_then rule_named (value_of (codes "rule") uses)
 
+-- the unit, if its text names one
 abbrev pub unit_given : List Use → Option LengthUnit
 unit_given uses = option_and_then unit_named (value_of (codes "unit") uses)
 
+-- the grid, if one is given, and if its text is one
 abbrev pub grid_given : List Use → Option (Option Given)
 grid_given uses = if_given grid_in (value_of (codes "grid") uses)
 
+-- the voxel, if one is given, and if its text is one
 abbrev pub voxel_given : List Use → Option (Option Voxel)
 voxel_given uses = if_given voxel_in (value_of (codes "probe") uses)
 
+-- the depth, if its text is one
 abbrev pub depth_given : List Use → Option Depth
 depth_given uses = option_and_then depth_named (value_of (codes "depth") uses)
 
 -- ---- faults
 
+-- this fault, unless what it is about is right
 abbrev pub unless : Bool → WordFault → Option WordFault
 unless right wrong_so = if right then None else Some wrong_so
 
@@ -106,6 +115,7 @@ png_option_given uses =
     else (if is_given (codes "mirror-x") uses then Some png_option.MirrorX
     else (if is_given (codes "mirror-y") uses then Some png_option.MirrorY else None))
 
+-- an option of PNGs is given, and `--png` is not
 abbrev pub without_png : List Use → Option WordFault
 without_png uses = if is_given (codes "png") uses then None else option_map (λ o. fault.WithoutPng o) (png_option_given uses)
 
@@ -113,6 +123,7 @@ without_png uses = if is_given (codes "png") uses then None else option_map (λ 
 abbrev pub missing : Text → Wanted → List Use → Option WordFault
 missing name option uses = unless (is_given (codes "box") uses || is_given name uses) (fault.Missing option)
 
+-- the first fault of a list, if there is one
 abbrev pub first_of : List (Option WordFault) → Option WordFault
 first_of [] = None
 first_of (None ∷ rest) = first_of rest
@@ -178,10 +189,11 @@ Answers asks_help asked = asked ≡ asks_for_help
 Answers asks_version asked = asked ≡ asks_for_version
 Answers wrong asked = asked ≡ asks_nothing
 
+-- the words are uses of options, and this is the first fault of what they give
 abbrev pub IsFirstFault : List Text → WordFault → Type 0
 IsFirstFault words first = (uses : List Use) × (said options words ≡ gives uses) × (first_fault uses ≡ Some first)
 
--- the fault is the one of the words, or an allocation failed
+-- the fault is the one of the words; of `Memory` nothing is said
 abbrev pub IsFaultOfWords : List Text → WordFault → Type 0
 IsFaultOfWords words (fault.Refused refusal) =
     (kind_of refusal ≢ OutOfMemory) × Answers (said options words) (asked_by (kind_of refusal))

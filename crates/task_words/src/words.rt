@@ -40,8 +40,8 @@ use stripe_claims::PASS_LIMIT;
 /// - `WithoutPng` if an option of PNGs is given and `--png` is not,
 /// - `Missing` if the task is not the box and the pitch is not given, then if the layer height is not.
 ///
-/// `Memory` comes only if an allocation failed, and a failed allocation never comes as `Refused`. The texts of help, version and
-/// refusals are not proved.
+/// `Memory` stands for a failed allocation, which never comes as `Refused`. No clause says when `Memory` comes; tests do. The
+/// texts of help, version and refusals are not proved.
 pub fn read_words(alloc: Global, words: &[String]) -> Result<Task, WordFault>
     ensures range { IfOk result IsInRange }
     ensures refused { IfErr result IsNoMemoryRefusal }

@@ -1,9 +1,19 @@
--- Worked rays: an octahedron, at its centre, at a corner and beside it, and a slanted facet.
-use Rattle.std.proofs.Common.{◌≡◌, refl}
+-- Worked rays: the tie rule; an octahedron, at its centre, at a corner and beside it, and a slanted facet.
+use Rattle.std.proofs.Common.{◌≡◌, refl, true, false}
 use Rattle.std.specs.Prelude.{pos, negsuc}
 use Rattle.geometry.proofs.examples.Meshes.{at, octahedron}
 use Rattle.geometry.specs.Facet.{Facet, facet_with, twice}
+use Rattle.geometry.specs.TieRule.{is_below, rises_through}
 use Rattle.geometry.specs.Winding.{turn_of, wind, hit, ray, wind_y, hit_y, ray_y}
+
+height_of_the_plane : is_below (pos 4) (pos 4) ≡ true
+height_of_the_plane = refl
+
+edge_up_to_the_plane : rises_through (pos 0) (pos 4) (pos 4) ≡ false
+edge_up_to_the_plane = refl
+
+edge_up_from_the_plane : rises_through (pos 4) (pos 8) (pos 4) ≡ true
+edge_up_from_the_plane = refl
 
 ray_octahedron : ray octahedron (at (pos 0) (pos 0) (pos 0)) ≡ pos 1
 unfolding turn_of wind hit

@@ -3,10 +3,13 @@ use Rattle.std.proofs.Common.{◌≡◌, ◌++◌, replicate, refl, ap, lit≤, 
 use Rattle.std.specs.Prelude.{Ok, Err, pos, negsuc, codes}
 use Rattle.micro_num.specs.declared.unit.Unit.TheVariants.{Millimetre, Inch}
 use Rattle.micro_num.specs.declared.num_fault.NumFault.TheVariants.{NotNumber, TooLong, OutOfRange}
-use Rattle.micro_num.specs.Micrometres.{coordinate_of, coordinate_or_fault, magnitude}
+use Rattle.micro_num.specs.Micrometres.{coordinate_of, coordinate_or_fault, magnitude, nearest}
 use Rattle.micro_num.proofs.lemmas.Magnitude.{magnitude-zero, magnitude_far, magnitude-near}
 use Rattle.geometry.specs.declared.limits.TheConstants.{COORDINATE_LIMIT}
 use Rattle.micro_num.specs.declared.limits.TheConstants.{WORD_LIMIT}
+
+half_upward : nearest 5 2 ≡ 3
+half_upward = refl
 
 half_away_from_zero : coordinate_of Millimetre (codes "0.0005") ≡ Ok (pos 1)
 unfolding magnitude

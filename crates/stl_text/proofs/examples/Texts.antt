@@ -1,6 +1,6 @@
 -- Worked texts: what they read as, and their faults.
 use Rattle.std.proofs.Common.{◌≡◌, ℕ, ◌+◌, List, [], ◌∷◌, ◌++◌, refl, length, lit≤, drop, take, replicate, ◌<◌, arith}
-use Rattle.std.specs.Prelude.{pos, negsuc, codes, false, flat_map, Err, Some}
+use Rattle.std.specs.Prelude.{pos, negsuc, codes, true, false, flat_map, Err, Some}
 use Rattle.micro_num.specs.declared.unit.Unit.TheVariants.{Millimetre}
 use Rattle.micro_num.specs.declared.num_fault.NumFault.{NumFault}
 use Rattle.micro_num.specs.declared.num_fault.NumFault.TheVariants.{NotNumber, TooLong, OutOfRange}
@@ -12,6 +12,15 @@ use Rattle.geometry.specs.Facet.{Facet, facet_with}
 use Rattle.stl_text.specs.Text
 use Rattle.stl_text.specs.Written
 use Rattle.geometry.specs.declared.limits.TheConstants.{FACET_LIMIT}
+
+word_behind_a_blank : Text.first_word (codes " solid x") ≡ codes "solid"
+word_behind_a_blank = refl
+
+vertical_tab : Text.is_white 11 ≡ true
+vertical_tab = refl
+
+to_the_line_end : Text.after_line (codes "name\nfacet") ≡ codes "\nfacet"
+to_the_line_end = refl
 
 box_file_length : length (file_text (cube 0 2)) ≡ 1483
 box_file_length = refl
