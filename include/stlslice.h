@@ -5,7 +5,7 @@
  *     stlslice_shape shape;
  *     char line[STLSLICE_LINE];
  *     if (stlslice_open_mesh(points, point_count, triangles, triangle_count, &options, &mesh, &shape, line, sizeof line)
- *         != STLSLICE_DONE)           // or stlslice_open of an ASCII STL text
+ *         != STLSLICE_DONE)           // or stlslice_open of a file, binary STL or ASCII STL
  *         puts(line);
  *     stlslice_mask(&mesh, k, image, image_room, &image_size);
  *     stlslice_close(&mesh);
@@ -19,7 +19,7 @@
  * a call with a null buffer of size 0 asks for the size, which is quick by stlslice_mask and stlslice_stripe. At any
  * other status buffer and size are as they were.
  *
- * Pointers. A text, an array or a buffer may be null if its size is 0. If any other pointer is null, the status is
+ * Pointers. A file, an array or a buffer may be null if its size is 0. If any other pointer is null, the status is
  * STLSLICE_OUT_OF_RANGE; a call without a status then does nothing. A pointer that is not null has to be valid for its
  * type. The places that one call writes to overlap neither each other nor what it reads.
  *
@@ -41,7 +41,7 @@ extern "C" {
 typedef uint32_t stlslice_status;
 #define STLSLICE_DONE 0u
 #define STLSLICE_OUT_OF_RANGE 1u /* a number, triangle, layer, stripe or voxel is out of its range; a pointer is null */
-#define STLSLICE_TEXT 3u         /* the text is no ASCII STL */
+#define STLSLICE_TEXT 3u         /* the file is no STL that can be read */
 #define STLSLICE_OPEN_MESH 4u    /* the mesh has an open edge */
 #define STLSLICE_GRID 5u         /* there is no such grid */
 #define STLSLICE_MEMORY 6u       /* out of memory: an allocation failed */
@@ -59,18 +59,18 @@ enum { STLSLICE_FITTED = 0, STLSLICE_GIVEN = 1 };
 /* Mirrors of a PNG: 0, one of these, or their sum. */
 enum { STLSLICE_MIRROR_X = 1, STLSLICE_MIRROR_Y = 2 };
 
-/* How a text is read, and how a mesh is cut into voxels. */
+/* How a file is read, and how a mesh is cut into voxels. */
 typedef struct stlslice_options {
     uint32_t pitch;                 /* a voxel's length along x and y, 1 to 100000 */
     uint32_t layer;                 /* a voxel's length along z, 1 to 100000 */
     uint32_t rule;                  /* STLSLICE_EVENODD, .. */
-    uint32_t unit;                  /* of a text's numbers: STLSLICE_MILLIMETRE, ..; of no effect on arrays */
+    uint32_t unit;                  /* of a file's numbers: STLSLICE_MILLIMETRE, ..; of no effect on arrays */
     uint32_t placing;               /* STLSLICE_FITTED: the rest is not read; STLSLICE_GIVEN: it is the grid */
     uint32_t columns, rows, layers; /* at most 16384, 16384 and 65535 */
     int32_t origin[3];              /* the corner of least x, y and z, each at most 128000000 from 0 */
 } stlslice_options;
 
-/* The facets of a text or of arrays: how many, and their least and greatest x, y and z. All are 0 if there is none. */
+/* The facets of a file or of arrays: how many, and their least and greatest x, y and z. All are 0 if there is none. */
 typedef struct stlslice_corners {
     uint64_t facets;
     int32_t low[3], high[3];
@@ -104,25 +104,29 @@ typedef struct stlslice_mesh {
 /* 1000000 for 1.0.0. */
 uint32_t stlslice_version(void);
 
-/* Reads an ASCII STL text, and reports the box of its facets. After a fault of text, mesh or grid, `line` has what the
- * program writes for it after "stlslice: ". If a number is out of its range, or an allocation failed, `line` has a text
- * of that. It ends with 0, and is cut if there is no room for it. At STLSLICE_DONE it is as it was. */
-stlslice_status stlslice_box(const uint8_t *text, size_t text_size, uint32_t unit, stlslice_corners *corners, char *line,
+/* Reads the bytes of a file, and reports the box of its facets. They are a binary STL exactly if there are 84 of them and
+ * 50 for each facet of the count at byte 80, and else an ASCII STL text. A coordinate has the exact value of its number,
+ * rounded once to the nearest micrometre, halves away from zero.
+ * After a fault of text, mesh or grid, `line` has what the program writes for it after "stlslice: ". After one of a binary
+ * STL it is "x of corner 2 of facet 3: not a number", "..: infinite" or "..: out of range", where facets and corners count
+ * from 0, or "too many facets: 1048577". If a number is out of its range, or an allocation failed, `line` has a text of
+ * that. It ends with 0, and is cut if there is no room for it. At STLSLICE_DONE it is as it was. */
+stlslice_status stlslice_box(const uint8_t *bytes, size_t size, uint32_t unit, stlslice_corners *corners, char *line,
                              size_t line_room);
 
-/* Opens an ASCII STL text: `mesh` has its mesh from now on, in place of one that it had. The text is no longer needed.
- * After a fault, `mesh` and `shape` are as they were, and `line` is as in stlslice_box. */
-stlslice_status stlslice_open(const uint8_t *text, size_t text_size, const stlslice_options *options, stlslice_mesh *mesh,
+/* Opens the bytes of a file, as stlslice_box reads them: `mesh` has its mesh from now on, in place of one that it had. The
+ * bytes are no longer needed. After a fault, `mesh` and `shape` are as they were, and `line` is as in stlslice_box. */
+stlslice_status stlslice_open(const uint8_t *bytes, size_t size, const stlslice_options *options, stlslice_mesh *mesh,
                               stlslice_shape *shape, char *line, size_t line_room);
 
-/* Opens a mesh from arrays, as stlslice_open does a text. A point is three coordinates, x, y and z in micrometres, each
+/* Opens a mesh from arrays, as stlslice_open does a file. A point is three coordinates, x, y and z in micrometres, each
  * at most 128000000 from 0. A triangle is the indices of its three corners among the points, from 0, counterclockwise
  * as seen from outside. The counts are of points and of triangles, so the arrays have three numbers for each. There are
  * at most 1048576 triangles. The unit of the options has to be a unit, and has no effect. A point that no triangle has
  * is not looked at. Nothing of the arrays is kept: they are no longer needed.
  * If a triangle is wrong, the status is STLSLICE_OUT_OF_RANGE. Then `line` is "point 7 of triangle 3 is missing", "point
  * 7 of triangle 3 is out of range", or "too many facets at triangle 1048576". It names the first wrong triangle, from 0,
- * and the first wrong point in it. Otherwise all is as in stlslice_open: a text of the same facets has the same mesh, or
+ * and the first wrong point in it. Otherwise all is as in stlslice_open: a file of the same facets has the same mesh, or
  * the same fault. */
 stlslice_status stlslice_open_mesh(const int32_t *points, size_t point_count, const uint32_t *triangles,
                                    size_t triangle_count, const stlslice_options *options, stlslice_mesh *mesh,

@@ -27,6 +27,10 @@ static const char triangle[] = "solid t\n" FIRST_FACET "endsolid t\n";
 static const int32_t points[12] = {0, 0, 0, 4000, 0, 0, 0, 4000, 0, 0, 0, 4000};
 static const uint32_t triangles[12] = {0, 2, 1, 0, 1, 3, 0, 3, 2, 1, 2, 3};
 
+/* the size of the tetrahedron as a binary STL, and 4 and infinity as its numbers are written */
+#define BINARY_SIZE (84 + 4 * 50)
+static const uint8_t four[4] = {0, 0, 0x80, 0x40}, infinite[4] = {0, 0, 0x80, 0x7f};
+
 static const stlslice_options millimetre = {1000, 1000, 0, 0, 0, 0, 0, 0, {0, 0, 0}};
 
 /* more allocations than any call here has */
@@ -91,6 +95,25 @@ static Opening open_arrays(const uint32_t *corners, size_t count, const stlslice
     it.status = stlslice_open_mesh(points, 4, corners, count, options, &it.mesh, &it.shape, it.line, sizeof it.line);
     return it;
 }
+
+/* the place of a coordinate in a binary STL: of this facet, corner and axis */
+static size_t binary_place(size_t facet, size_t corner, size_t axis) { return 84 + 50 * facet + 12 + 12 * corner + 4 * axis; }
+
+/* the tetrahedron as a binary STL with this count, whose last number is this one */
+static Opening open_binary(uint8_t count, const uint8_t last[4]) {
+    uint8_t bytes[BINARY_SIZE] = "made by a test";
+    bytes[80] = count;
+    for (size_t at = 0; at < 12; at++)
+        for (size_t axis = 0; axis < 3; axis++)
+            if (points[3 * triangles[at] + axis] != 0)
+                memcpy(bytes + binary_place(at / 3, at % 3, axis), four, sizeof four);
+    memcpy(bytes + binary_place(3, 2, 2), last, sizeof four);
+    Opening it = begun();
+    it.status = stlslice_open(bytes, sizeof bytes, &millimetre, &it.mesh, &it.shape, it.line, sizeof it.line);
+    return it;
+}
+
+static Opening of_binary(void) { return open_binary(4, four); }
 
 static Opening of_text(void) { return open_text(tetrahedron, &millimetre); }
 
@@ -254,6 +277,16 @@ static void a_mesh_of_arrays_is_opened(void) {
     stlslice_close(&it.mesh);
 }
 
+static void a_binary_file_is_opened(void) {
+    Opening it = of_binary();
+    CHECK(is_open(&it));
+    CHECK(is_done(mask_in(&it.mesh, 64)));
+    stlslice_close(&it.mesh);
+    const Opening endless = open_binary(4, infinite), lying = open_binary(3, four);
+    CHECK(is_refused(&endless, STLSLICE_TEXT, "z of corner 2 of facet 3: infinite"));
+    CHECK(is_refused(&lying, STLSLICE_TEXT, "expected solid at byte 0"));
+}
+
 /* fails each allocation in turn of opening the tetrahedron, or of its box, until none is left to fail: how many failed */
 static unsigned long failed_openings(Opening (*begin)(void)) {
     for (unsigned long number = 1;; number++) {
@@ -270,6 +303,8 @@ static unsigned long failed_openings(Opening (*begin)(void)) {
 }
 
 static void each_failed_allocation_of_arrays_is_told(void) { CHECK(failed_openings(of_arrays) > 5); }
+
+static void each_failed_allocation_of_a_binary_file_is_told(void) { CHECK(failed_openings(of_binary) > 5); }
 
 static void each_failed_allocation_of_a_box_is_told(void) { CHECK(failed_openings(box_of_text) > 0); }
 
@@ -378,7 +413,7 @@ static unsigned long failed_lines(Refusal refusal, const char *text) {
 }
 
 static void what_is_told_without_memory(void) {
-    CHECK(failed_lines(without_solid(), "the text is no ASCII STL") > 0);
+    CHECK(failed_lines(without_solid(), "the file is no STL that can be read") > 0);
     CHECK(failed_lines(with_open_edge(), "the mesh has an open edge") > 0);
     CHECK(failed_lines(with_no_cells(), "there is no such grid") > 0);
     /* the line of a failed allocation needs none */
@@ -418,7 +453,9 @@ typedef struct {
 static const Test tests[] = {
     TEST(a_mesh_is_opened_asked_and_closed),
     TEST(a_mesh_of_arrays_is_opened),
+    TEST(a_binary_file_is_opened),
     TEST(each_failed_allocation_of_arrays_is_told),
+    TEST(each_failed_allocation_of_a_binary_file_is_told),
     TEST(each_failed_allocation_is_told),
     TEST(each_failed_allocation_of_a_box_is_told),
     TEST(pngs_that_are_refused),

@@ -17,7 +17,7 @@ static const char *const texts[] = {
     "done",
     "a number is out of its range, or outside the grid",
     "no status",
-    "the text is no ASCII STL",
+    "the file is no STL that can be read",
     "the mesh has an open edge",
     "there is no such grid",
     "out of memory",

@@ -14,8 +14,8 @@
         mesh.loops(120)                 # its closed polygons: arrays of points, in half-micrometres
         mesh.probe(10, 20, 120)         # signed crossings of the rays along x and y from a voxel's centre
 
-The points of `open_mesh` are whole micrometres: `micrometres` makes them of millimetres, and `read_binary` reads them from a
-binary STL. `open` takes an ASCII STL text, as the program does.
+`open` takes a file: binary STL or ASCII STL. The points of `open_mesh` are whole micrometres, and `micrometres` makes them of
+millimetres.
 
 A mask is laid out as the program's image: its first row is that of the greatest y. `probe` counts rows from the least y
 up, so the pixel of its column i and row j is `mask[rows - 1 - j, i]`, or `mask[::-1][j, i]`. Lengths are whole micrometres.
@@ -36,7 +36,6 @@ import ctypes
 import math
 import operator
 import os
-import struct
 import threading
 from fractions import Fraction
 from typing import TYPE_CHECKING, Any, BinaryIO, Callable, Iterator, List, NamedTuple, Optional, Sequence, Tuple, Union, overload
@@ -45,7 +44,7 @@ if TYPE_CHECKING:
     import numpy
 
 __all__ = ["Box", "ClosedFault", "Fault", "MemoryFault", "Mesh", "RangeFault", "box", "micrometres", "open", "open_mesh",
-           "read_binary", "version"]
+           "version"]
 
 Source = Union[str, "os.PathLike[str]", bytes, bytearray, memoryview, BinaryIO]
 Triple = Tuple[int, int, int]
@@ -57,14 +56,13 @@ LINE = 256
 STRIPE = 8
 WORD = range(2**32)
 MOST_COORDINATE = 2**31 - 1     # more than any that a mesh may have, and as far as the library's type goes
-HEADER, FACET = 84, 50          # bytes of a binary STL
 OUT_OF_RANGE, MEMORY, NO_ROOM, NOT_OPEN = 1, 6, 7, 8
 
 
 class Fault(Exception):
-    """Why a call was refused. If text, mesh or grid is at fault, or memory ran out, `status` (3 to 6) and `line` are the
-    program's. Else they are the library's own: 1 if a number is out of its range or outside the grid, 8 if the mesh was
-    closed."""
+    """Why a call was refused. If file, mesh or grid is at fault, or memory ran out, `status` is 3 to 6. It and `line` are then
+    the program's, but for the line of a binary STL. Else they are the library's own: 1 if a number is out of its range or outside
+    the grid, 8 if the mesh was closed."""
 
     def __init__(self, status: int, text: str) -> None:
         super().__init__(text)
@@ -88,7 +86,7 @@ class ClosedFault(Fault, ValueError):
 
 
 class Box(NamedTuple):
-    """The facets of a text: how many, and their least and greatest x, y and z, in micrometres; zeros if there are none."""
+    """The facets of a file: how many, and their least and greatest x, y and z, in micrometres; zeros if there are none."""
 
     facets: int
     low: Triple
@@ -126,11 +124,11 @@ def _library() -> ctypes.CDLL:
     except OSError as fault:
         raise ImportError(f"{fault}: install the library, or name it in STLSLICE_LIBRARY") from fault
     at, size, sized = ctypes.c_void_p, ctypes.c_size_t, ctypes.POINTER(ctypes.c_size_t)
-    text, word, handle = ctypes.c_char_p, ctypes.c_uint32, ctypes.POINTER(_Handle)
+    file, word, handle = ctypes.c_char_p, ctypes.c_uint32, ctypes.POINTER(_Handle)
     for name, words in {
         "version": [],
-        "box": [text, size, word, ctypes.POINTER(_Corners), at, size],
-        "open": [text, size, ctypes.POINTER(_Options), handle, ctypes.POINTER(_Shape), at, size],
+        "box": [file, size, word, ctypes.POINTER(_Corners), at, size],
+        "open": [file, size, ctypes.POINTER(_Options), handle, ctypes.POINTER(_Shape), at, size],
         "open_mesh": [at, size, at, size, ctypes.POINTER(_Options), handle, ctypes.POINTER(_Shape), at, size],
         "mask": [handle, word, at, size, sized],
         "stripe": [handle, ctypes.c_uint64, at, size, sized],
@@ -162,7 +160,7 @@ def _raise(status: int, line: Optional[ctypes.Array[ctypes.c_char]] = None) -> N
     raise kind(status, line.value.decode("ascii", "replace"))
 
 
-def _text(source: Source) -> bytes:
+def _bytes(source: Source) -> bytes:
     """The bytes of a file, of an open file, or of what holds them already. They are of the type `bytes` itself: one made of it
     may tell another length than it has."""
     if hasattr(source, "read"):
@@ -271,87 +269,41 @@ def _triangles(values: Triples) -> Tuple[Any, Any, int]:
     return kept, kept.ctypes.data, len(kept)
 
 
-def _single(value: float) -> Fraction:
-    """The shortest decimal that reads back as a number of single precision; of several the nearest, of two the even one."""
-    size = Fraction(abs(value))
-    bits, = struct.unpack("<I", struct.pack("<f", abs(value)))
-    if bits == 0:
-        return size
-    below, above = (Fraction(struct.unpack("<f", struct.pack("<I", bits + step))[0]) for step in (-1, 1))
-    low, high = (below + size) / 2, (size + above) / 2
-    power = int(f"{value:e}".split("e")[1])
-    for digits in range(1, 10):
-        unit = Fraction(10) ** (power - digits + 1)
-        for number in sorted((size // unit, size // unit + 1), key=lambda it: (abs(it * unit - size), it % 2)):
-            it = number * unit
-            if low < it < high or (bits % 2 == 0 and it in (low, high)):
-                return it if value > 0 else -it
-    return Fraction(value)
-
-
-def _rounded(value: float, is_single: bool) -> int:
-    """A number of millimetres in micrometres, by its shortest decimal: the nearest, halves away from zero."""
-    decimal = _single(value) if is_single else Fraction(repr(value))
-    size = math.floor(abs(decimal) * 1000 + Fraction(1, 2))
-    return size if decimal >= 0 else -size
+def _rounded(value: float) -> int:
+    """A number of millimetres in micrometres: the nearest to its exact value, halves away from zero."""
+    size = math.floor(abs(Fraction(value)) * 1000 + Fraction(1, 2))
+    return size if value >= 0 else -size
 
 
 def micrometres(millimetres: Any) -> Any:
     """Points in whole micrometres, as `open_mesh` takes them, of points in millimetres: rows of three numbers.
 
-    A number becomes the nearest micrometre to the shortest decimal that reads back as this number, halves away from zero. The
-    program reads the same from a text that has this decimal. It is the decimal of single precision in an array of that, else of
-    double precision. Other types, such as float16 and longdouble, are made double first.
+    A number becomes the micrometre that is nearest to its exact value, halves away from zero. So `open` reads a binary STL, and
+    equal numbers stay equal. Types that are longer than double precision, such as longdouble, are made double first.
 
     Raises `RangeFault` if a number is not finite, or 2147483.647 mm or more from 0. A mesh takes points at most 128 metres from 0.
     The result is an array of numpy, or a list of triples if numpy is missing or has no type for the numbers.
     """
     rows = _rows("millimetres", millimetres, "iuf")
     if isinstance(rows, list):
-        return _listed([float(it) if isinstance(it, float) else _whole("millimetres", it, "numbers (float or int)") for it in rows],
-                       False)
+        numbers = [float(it) if isinstance(it, float) else _whole("millimetres", it, "numbers (float or int)") for it in rows]
+        _all_fit([at for at, it in enumerate(numbers) if not abs(it) * 1000 < MOST_COORDINATE])
+        found = [it * 1000 if isinstance(it, int) else _rounded(it) for it in numbers]
+        return list(zip(found[::3], found[1::3], found[2::3]))
     numpy = _numpy()
-    is_single = rows.dtype.kind == "f" and rows.dtype.itemsize == 4
     with numpy.errstate(over="ignore", invalid="ignore"):   # what becomes infinite, or is no number, is refused below
-        exact = numpy.abs(rows.astype(numpy.float64)) * 1000
-    _all_fit(numpy.flatnonzero(~(exact < MOST_COORDINATE)))
-    whole = numpy.floor(exact + 0.5)
-    # a number so near to a half that the decimal decides
-    near = numpy.flatnonzero(numpy.abs(exact - numpy.floor(exact) - 0.5) <= exact * (2.0**-22 if is_single else 2.0**-50))
-    found = numpy.copysign(whole, rows.astype(numpy.float64)).astype(numpy.int32)
-    for at in near:
-        found.flat[at] = _rounded(float(rows.flat[at]), is_single)
+        size = numpy.abs(rows.astype(numpy.float64)) * 1000
+    _all_fit(numpy.flatnonzero(~(size < MOST_COORDINATE)))
+    found = numpy.copysign(numpy.floor(size + 0.5), rows.astype(numpy.float64)).astype(numpy.int32)
+    # a product in double precision may be rounded to a half, or away from one
+    for at in numpy.flatnonzero(numpy.abs(size - numpy.floor(size) - 0.5) <= size * 2.0**-50):
+        found.flat[at] = _rounded(float(rows.flat[at]))
     return found
-
-
-def _listed(numbers: Sequence[float], is_single: bool) -> List[Triple]:
-    """The same of a list of all numbers, without numpy."""
-    _all_fit([at for at, it in enumerate(numbers) if not abs(it) * 1000 < MOST_COORDINATE])
-    found = [it * 1000 if isinstance(it, int) else _rounded(it, is_single) for it in numbers]
-    return list(zip(found[::3], found[1::3], found[2::3]))
 
 
 def _all_fit(wrong: Sequence[int]) -> None:
     if len(wrong):
         raise RangeFault(OUT_OF_RANGE, f"point {wrong[0] // 3} is out of range")
-
-
-def read_binary(path: Union[str, "os.PathLike[str]"]) -> Tuple[Any, Any]:
-    """The points and triangles of a binary STL in millimetres, as `open_mesh` takes them: three points for each facet, in
-    micrometres (see `micrometres`). Raises `OSError` if the file cannot be read, `ValueError` if it is no binary STL, and
-    `RangeFault` as `micrometres` does. A binary STL has 84 bytes, and 50 for each facet that it counts.
-    """
-    with builtins.open(os.fspath(path), "rb") as file:
-        data = file.read()
-    count = struct.unpack_from("<I", data, 80)[0] if len(data) >= HEADER else 0
-    if len(data) < HEADER or len(data) != HEADER + FACET * count:
-        raise ValueError(f"{os.fspath(path)} is no binary STL")
-    numpy = _numpy()
-    if numpy is None:
-        numbers = [it for at in range(HEADER, len(data), FACET) for it in struct.unpack_from("<9f", data, at + 12)]
-        return _listed(numbers, True), [(at, at + 1, at + 2) for at in range(0, 3 * count, 3)]
-    facets = numpy.frombuffer(data, numpy.dtype([("normal", "<f4", 3), ("corners", "<f4", (3, 3)), ("more", "<u2")]), count, HEADER)
-    return micrometres(facets["corners"].reshape(-1, 3)), numpy.arange(3 * count, dtype=numpy.uint32).reshape(-1, 3)
 
 
 def version() -> str:
@@ -361,10 +313,10 @@ def version() -> str:
 
 
 def box(source: Source, unit: str = "mm") -> Box:
-    """The number and the box of the facets of an ASCII STL text, which is given as in `open`. The mesh need not be closed.
-    Raises a `Fault` if the program would refuse the text, and `OSError` if the file cannot be read."""
-    text, corners, line = _text(source), _Corners(), ctypes.create_string_buffer(LINE)
-    status = _lib.stlslice_box(text, len(text), _choice("unit", unit, UNITS), corners, line, LINE)
+    """The number and the box of the facets of a file, which is given as in `open`. The mesh need not be closed. Raises a
+    `Fault` if the file is no STL that can be read, and `OSError` if it cannot be read at all."""
+    data, corners, line = _bytes(source), _Corners(), ctypes.create_string_buffer(LINE)
+    status = _lib.stlslice_box(data, len(data), _choice("unit", unit, UNITS), corners, line, LINE)
     if status:
         _raise(status, line)
     return Box(corners.facets, tuple(corners.low), tuple(corners.high))
@@ -372,15 +324,17 @@ def box(source: Source, unit: str = "mm") -> Box:
 
 def open(source: Source, pitch: int = 50, layer: int = 50, rule: str = "evenodd", grid: Optional[Sequence[int]] = None,
          unit: str = "mm") -> Mesh:
-    """Opens an ASCII STL text, as a path, an open binary file or its bytes.
+    """Opens a file, binary STL or ASCII STL, as a path, an open binary file or its bytes.
+
+    It is a binary STL exactly if it has 84 bytes, and 50 for each facet that it counts at byte 80.
 
     `pitch` is a voxel's length along x and y and `layer` along z, in micrometres. `grid`, if given, has the six numbers
     of the program's option: columns, rows and layers, then the corner of least x, y and z in micrometres. `unit`, "mm" or
-    "inch", is that of the text. Raises a `Fault` if the program would refuse the text or an option, and `OSError` if the file
-    cannot be read.
+    "inch", is that of the file's numbers. Raises a `Fault` if the file is no STL that can be read, or if the program would refuse
+    its mesh or an option, and `OSError` if the file cannot be read at all.
     """
-    text = _text(source)
-    return Mesh(lambda *places: _lib.stlslice_open(text, len(text), *places), pitch, layer, rule, grid, unit)
+    data = _bytes(source)
+    return Mesh(lambda *places: _lib.stlslice_open(data, len(data), *places), pitch, layer, rule, grid, unit)
 
 
 def open_mesh(points: Triples, triangles: Triples, pitch: int = 50, layer: int = 50, rule: str = "evenodd",

@@ -3,3 +3,4 @@ pub mod Inputs
 pub mod Lengths
 pub mod OneAnswer
 pub mod Pngs
+pub mod Texts

@@ -8,7 +8,7 @@
 //!     rule: Rule::NonZero,
 //!     placing: Placing::Fitted,
 //! };
-//! let session = Session::open(alloc, text, &setup)?;
+//! let session = Session::open(alloc, bytes, &setup)?;
 //! let session = Session::open_mesh(alloc, points, triangles, &setup)?;    // the same from arrays
 //! for k in 0..session.layers() {
 //!     let image = session.image(k)?;              // raw PBM, just as the program writes it
@@ -20,23 +20,28 @@
 //! let (along_x, along_y) = session.probe(3, 4, 5)?;
 //! ```
 //!
-//! - [`Session`]: the closed mesh of an ASCII STL text, or of arrays, in its grid, with a rule. No call changes it.
-//! - [`SessionReader`]: opens a text that arrives in chunks.
-//! - [`Setup`]: what a text or arrays are opened with; [`Placing`]: a grid that fits the mesh, or a given one.
+//! - [`Session`]: the closed mesh of a file, binary STL or ASCII STL, or of arrays, in its grid, with a rule. No call changes it.
+//! - [`read_file`]: the facets of a file of either form.
+//! - [`SessionReader`]: opens an ASCII STL text that arrives in chunks.
+//! - [`Setup`]: what a file or arrays are opened with; [`Placing`]: a grid that fits the mesh, or a given one.
 //! - [`SessionFault`]: why there is no session, or no answer. Its `Display` is what the program writes for the fault after
-//!   `stlslice: `. There are two exceptions: the program refuses `Step` as it reads its words, and has no arrays.
+//!   `stlslice: `. There are three exceptions: the program refuses `Step` as it reads its words, and has neither binary files nor
+//!   arrays.
 //! - [`Loops`] of [`Segment`]s between [`Node`]s, and [`Outlines`] of [`PlanePoint`]s: what `Session::loops` and
 //!   `Session::outlines` return, re-exported from `contour`.
-//! - [`ArrayFault`], re-exported from `mesh_arrays`; [`Unit`], re-exported from `micro_num`; [`Rule`] and [`Grid`], re-exported
-//!   from `raster`; [`Depth`] and [`Mirrors`] of a PNG, re-exported from `layer_png`.
+//! - [`BinaryFault`], re-exported from `binary_stl`; [`ArrayFault`], re-exported from `mesh_arrays`; [`Unit`], re-exported from
+//!   `micro_num`; [`Rule`] and [`Grid`], re-exported from `raster`; [`Depth`] and [`Mirrors`] of a PNG, re-exported from
+//!   `layer_png`.
 //! - [`STEP_LIMIT`]: the greatest pitch and layer height; [`STRIPE_LAYERS`]: the number of layers of a stripe.
-//! - [`one_answer`]: a law. A setup and a text, or arrays, have one answer, a session or a fault, if memory suffices.
-//! - [`same_answer`]: a law. A text and arrays that are read as the same facets have the same answer.
+//! - [`one_answer`]: a law. A setup and a file, or arrays, have one answer, a session or a fault, if memory suffices.
+//! - [`same_answer`]: a law. A file and arrays, or two files, that are read as the same facets have the same answer.
+//! - [`text_as_file`]: a law. The file of a text has the answer of the text.
 //!
 //! Pitch, layer height, origin and box are in micrometres. Columns, rows and layers count from 0 along x, y and z, and
 //! stripes, which are eight layers each, from the lowest up.
 #![tactic(auto)]
 
+mod file;
 mod laws;
 mod layers;
 mod session;
@@ -44,10 +49,12 @@ mod session_fault;
 mod session_reader;
 mod setup;
 
+pub use binary_stl::BinaryFault;
 pub use build_book::STRIPE_LAYERS;
 pub use contour::{Loops, Node, Outlines, PlanePoint, Segment};
+pub use file::read_file;
 pub use geometry::STEP_LIMIT;
-pub use laws::{one_answer, same_answer};
+pub use laws::{one_answer, same_answer, text_as_file};
 pub use layer_png::{Depth, Mirrors};
 pub use mesh_arrays::ArrayFault;
 pub use micro_num::Unit;

@@ -14,10 +14,11 @@ ghost use Rattle.raster.specs.Filler.{area_of};
 ghost use Rattle.raster.specs.Grid.{plane};
 ghost use Rattle.raster.specs.Image.{image_limit};
 ghost use Rattle.layer_session.specs.Answers.{IsLayerFault, IsRangeFault, IsStripeFault, areas_of, image_of, is_white_pixel, outside, png_of_layer, probed, stripe_images};
-ghost use Rattle.layer_session.specs.Session.{Input, IsOpenFault, IsReadAs, IsSessionOf, Session as SessionModel, of_arrays, of_text};
+ghost use Rattle.layer_session.specs.Session.{Input, IsOpenFault, IsReadAs, IsSessionOf, Session as SessionModel, of_arrays, of_file};
 ghost use Rattle.layer_session.specs.Setup.{HasSteps};
 ghost use Rattle.layer_session.specs.declared.session_fault.SessionFault.TheVariants.{Memory, Step};
 
+use crate::file::read_file;
 use crate::layers::{
     layer_area, layer_areas, layer_as_png, layer_image, layer_loops, layer_outlines, stripe_images,
 };
@@ -32,7 +33,6 @@ use mesh_weld::{probe, weld};
 use raster::{Grid, Rule, image_len};
 use std::alloc::Allocator;
 use std::marker::Model;
-use stl_text::read_stl;
 
 /// A closed mesh in its grid, with a rule. No call changes it, so its layers may be asked in any order.
 #[derive(Drop)]
@@ -52,25 +52,27 @@ impl<A: Allocator> Model for Session<A> {
 }
 
 impl<A: Allocator + Copy + Send + Sync> Session<A> {
-    /// Opens an ASCII STL text: reads it, drops the facets with two equal corners, welds the others and lays the grid.
+    /// Opens the bytes of a file, binary STL or ASCII STL: reads it, drops the facets with two equal corners, welds the others
+    /// and lays the grid. [`read_file`](crate::read_file) says which of the two a file is.
     ///
     /// # Errors
     /// In this order:
     /// - `Step` if pitch or layer height is out of range,
-    /// - `Stl` if the text does not read as facets,
+    /// - `Binary` if the file is read as a binary STL and is no facets,
+    /// - `Stl` if it is read as a text and is no facets,
     /// - `Weld` if the edges of all its facets do not balance,
     /// - `Grid` if there is no grid.
     ///
     /// `Memory` comes only if an allocation failed, and never in place of `Step`. `Outside` does not come.
     pub fn open(alloc: A, bytes: &[u8], setup: &Setup) -> Result<Session<A>, SessionFault>
-        ensures found { IfOk result (IsSessionOf setup.now (of_text bytes.now)) }
-        ensures fault { IfErr result (IsOpenFault setup.now (of_text bytes.now)) }
+        ensures found { IfOk result (IsSessionOf setup.now (of_file bytes.now)) }
+        ensures fault { IfErr result (IsOpenFault setup.now (of_file bytes.now)) }
         ensures step { (HasSteps setup.now → ⊥) → result ≡ Err Step }
-        ensures only { (session : SessionModel) → IsSessionOf setup.now (of_text bytes.now) session
+        ensures only { (session : SessionModel) → IsSessionOf setup.now (of_file bytes.now) session
             → IfErr result (λ fault. fault ≡ Memory) }
     {
         setup.check()?;
-        let facets = read_stl(alloc, bytes, setup.unit)?;
+        let facets = read_file(alloc, bytes, setup.unit)?;
         Session::of_facets(alloc, facets, setup)
     }
 
@@ -78,7 +80,7 @@ impl<A: Allocator + Copy + Send + Sync> Session<A> {
     /// lays the grid.
     ///
     /// Points are three coordinates each, in whole micrometres. Triangles are the indices of their corners among the points,
-    /// counterclockwise as seen from outside. The unit of `setup` is not used. If a text reads as these facets,
+    /// counterclockwise as seen from outside. The unit of `setup` is not used. If a file reads as these facets,
     /// [`Session::open`] has the same answer ([`same_answer`](crate::same_answer)).
     ///
     /// # Errors
@@ -88,7 +90,7 @@ impl<A: Allocator + Copy + Send + Sync> Session<A> {
     /// - `Weld` if the edges of all facets do not balance,
     /// - `Grid` if there is no grid.
     ///
-    /// `Memory` comes only if an allocation failed, and never in place of `Step`. `Stl` and `Outside` do not come.
+    /// `Memory` comes only if an allocation failed, and never in place of `Step`. `Stl`, `Binary` and `Outside` do not come.
     pub fn open_mesh(
         alloc: A,
         points: &[[i32; 3]],

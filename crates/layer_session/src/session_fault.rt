@@ -1,11 +1,13 @@
 //! Why there is no session, or no answer of one.
 ghost use Rattle.std.specs.Prelude.{◌≡◌, ◌≢◌, Some};
+ghost use Rattle.binary_stl.specs.declared.binary_fault.BinaryFault.TheVariants as binary_fault;
 ghost use Rattle.mesh_arrays.specs.declared.array_fault.ArrayFault.TheVariants as array_fault;
 ghost use Rattle.mesh_weld.specs.declared.weld_fault.WeldFault.TheVariants as weld_fault;
 ghost use Rattle.stl_text.specs.declared.stl_fault.StlFault.TheVariants as stl_fault;
 ghost use Rattle.layer_session.specs.SessionFault.{session_fault_text};
-ghost use Rattle.layer_session.specs.declared.session_fault.SessionFault.TheVariants.{Arrays, Grid, Memory, Stl, Weld};
+ghost use Rattle.layer_session.specs.declared.session_fault.SessionFault.TheVariants.{Arrays, Binary, Grid, Memory, Stl, Weld};
 
+use binary_stl::BinaryFault;
 use mesh_arrays::ArrayFault;
 use mesh_weld::WeldFault;
 use raster::GridFault;
@@ -15,14 +17,16 @@ use stl_text::StlFault;
 use thiserror::Error;
 
 /// Why there is no session, or no answer of one. Its `Display` is the program's line on standard error, after `stlslice: `, but
-/// for `Step` and `Arrays`. The program checks pitch and layer height as it reads its words, and names the option. It has no
-/// arrays.
+/// for `Step`, `Binary` and `Arrays`. The program checks pitch and layer height as it reads its words, and names the option. It
+/// reads texts alone.
 #[derive(Clone, Copy, Debug, PartialEq, Eq, Error)]
 pub enum SessionFault {
     /// Pitch or layer height is out of range.
     Step,
     /// The text does not read as facets. It is not `StlFault::Memory`.
     Stl(StlFault),
+    /// The binary STL does not read as facets. It is not `BinaryFault::Memory`.
+    Binary(BinaryFault),
     /// The arrays are no facets. It is not `ArrayFault::Memory`.
     Arrays(ArrayFault),
     /// The mesh is not closed. It is not `WeldFault::Memory`.
@@ -48,6 +52,7 @@ impl Display for SessionFault {
                 f.write_str("pitch and layer height take 1 to 100000 micrometres")
             }
             SessionFault::Stl(cause) => cause.fmt(f),
+            SessionFault::Binary(cause) => cause.fmt(f),
             SessionFault::Arrays(cause) => cause.fmt(f),
             SessionFault::Weld(cause) => cause.fmt(f),
             SessionFault::Grid(cause) => cause.fmt(f),
@@ -80,6 +85,18 @@ impl From<StlFault> for SessionFault {
         match cause {
             StlFault::Memory => SessionFault::Memory,
             _ => SessionFault::Stl(cause),
+        }
+    }
+}
+
+impl From<BinaryFault> for SessionFault {
+    ghost from_gives = { λ cause fault. (cause ≡ binary_fault.Memory → fault ≡ Memory)
+        × (cause ≢ binary_fault.Memory → fault ≡ Binary cause) };
+
+    fn from(cause: BinaryFault) -> SessionFault {
+        match cause {
+            BinaryFault::Memory => SessionFault::Memory,
+            _ => SessionFault::Binary(cause),
         }
     }
 }

@@ -2,15 +2,13 @@
 use Rattle.std.specs.Prelude.{◌≡◌, ◌⊎◌, ◌<◌, ◌≤◌, ◌∷◌, ◌++◌, ◌+◌, ◌-◌, ℕ, List, length, drop, take, min, Option, Some, None, Ok, Err}
 use Rattle.geometry.specs.Facet.{Facet}
 use Rattle.geometry.specs.BoundingBox.{extent}
-use Rattle.geometry.specs.declared.limits.TheConstants.{FACET_LIMIT}
-use Rattle.stl_text.specs.Text.{IsFaultOf, Reads}
 use Rattle.micro_num.specs.declared.unit.Unit.{Unit as LengthUnit}
 use Rattle.raster.specs.Filler.{area_of}
 use Rattle.layer_png.specs.declared.depth.Depth.{Depth}
 use Rattle.layer_png.specs.declared.mirrors.Mirrors.{Mirrors}
 use Rattle.build_book.specs.Job.{Job, stripe_count}
 use Rattle.layer_session.specs.Answers.{areas_of, image_of, outside, png_of_layer, probed, stripe_images}
-use Rattle.layer_session.specs.Session.{Input, IsOpenFault, IsSessionOf, Session}
+use Rattle.layer_session.specs.Session.{Input, IsFaultOfFile, IsOpenFault, IsSessionOf, ReadsFile, Session}
 use Rattle.layer_session.specs.SessionFault.{session_fault_text}
 use Rattle.layer_session.specs.Setup.{HasSteps}
 use Rattle.layer_session.specs.declared.setup.Setup.{Setup}
@@ -100,41 +98,32 @@ IsFaultLine fault.Step old new = IsLine (session_fault_text fault.Step) old new
 IsFaultLine fault.Memory old new = IsLine (session_fault_text fault.Memory) old new
 IsFaultLine (fault.Outside columns rows layers) old new = IsLine (status_text OUT_OF_RANGE) old new
 IsFaultLine (fault.Stl cause) old new = IsToldOrShort (fault.Stl cause) old new
+IsFaultLine (fault.Binary cause) old new = IsToldOrShort (fault.Binary cause) old new
 IsFaultLine (fault.Arrays cause) old new = IsToldOrShort (fault.Arrays cause) old new
 IsFaultLine (fault.Weld cause) old new = IsToldOrShort (fault.Weld cause) old new
 IsFaultLine (fault.Grid cause) old new = IsToldOrShort (fault.Grid cause) old new
 
--- what is said of a text that has no box
-abbrev pub IsTextFault : LengthUnit → List ℕ → SessionFault → Type 0
-IsTextFault unit text (fault.Stl cause) = IsFaultOf FACET_LIMIT unit text cause
-IsTextFault unit text fault.Memory = Unit {0}
-IsTextFault unit text fault.Step = ⊥
-IsTextFault unit text (fault.Arrays cause) = ⊥
-IsTextFault unit text (fault.Weld cause) = ⊥
-IsTextFault unit text (fault.Grid cause) = ⊥
-IsTextFault unit text (fault.Outside columns rows layers) = ⊥
-
--- the number and the box of the facets that a text reads as
-pub record IsBoxed (unit : ℕ) (text : List ℕ) (told : Corners) : Type 0 where
+-- the number and the box of the facets that a file reads as
+pub record IsBoxed (unit : ℕ) (bytes : List ℕ) (told : Corners) : Type 0 where
   pub meant : LengthUnit
   pub facets : List Facet
   pub means : unit_numbered unit ≡ Some meant
-  pub reads : Reads FACET_LIMIT meant text facets
+  pub reads : ReadsFile meant bytes facets
   pub box : told ≡ corners_told (length facets) (extent facets)
 
--- a number that is no unit's, or the fault of the text, with its line
+-- a number that is no unit's, or the fault of the file, with its line
 abbrev pub IsUnboxed : ℕ → List ℕ → List ℕ → List ℕ → ℕ → Type 0
-IsUnboxed unit text before after status =
+IsUnboxed unit bytes before after status =
     ((unit_numbered unit ≡ None) × (status ≡ OUT_OF_RANGE) × IsLine (status_text OUT_OF_RANGE) before after)
     ⊎ ((meant : LengthUnit) × (fault : SessionFault) × (unit_numbered unit ≡ Some meant)
-    × IsTextFault meant text fault × (status ≡ status_of fault) × IsFaultLine fault before after)
+    × IsFaultOfFile meant bytes fault × (status ≡ status_of fault) × IsFaultLine fault before after)
 
 -- the box, and no line; or else the line, and no box
 abbrev pub IsBoxAnswer : ℕ → List ℕ → Corners → Corners → List ℕ → List ℕ → ℕ → Type 0
-IsBoxAnswer unit text old new before after status =
-    (IsBoxed unit text new × (after ≡ before) × (status ≡ DONE)) ⊎ ((new ≡ old) × IsUnboxed unit text before after status)
+IsBoxAnswer unit bytes old new before after status =
+    (IsBoxed unit bytes new × (after ≡ before) × (status ≡ DONE)) ⊎ ((new ≡ old) × IsUnboxed unit bytes before after status)
 
--- the session of a text or of arrays, and its shape
+-- the session of a file or of arrays, and its shape
 pub record IsOpened (o : Options) (input : Input) (new : Option Session) (shape : Shape) : Type 0 where
   pub setup : Setup
   pub session : Session

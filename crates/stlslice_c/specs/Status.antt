@@ -8,6 +8,7 @@ use Rattle.stlslice_c.specs.declared.status.TheConstants.{GRID, MEMORY, OPEN_MES
 abbrev pub status_of : SessionFault → ℕ
 status_of fault.Step = OUT_OF_RANGE
 status_of (fault.Stl cause) = TEXT
+status_of (fault.Binary cause) = TEXT
 status_of (fault.Arrays cause) = OUT_OF_RANGE
 status_of (fault.Weld cause) = OPEN_MESH
 status_of (fault.Grid cause) = GRID
@@ -19,7 +20,7 @@ abbrev pub status_text : ℕ → List ℕ
 status_text n =
     if nat_eq n 0 then codes "done"
     else if nat_eq n 1 then codes "a number is out of its range, or outside the grid"
-    else if nat_eq n 3 then codes "the text is no ASCII STL"
+    else if nat_eq n 3 then codes "the file is no STL that can be read"
     else if nat_eq n 4 then codes "the mesh has an open edge"
     else if nat_eq n 5 then codes "there is no such grid"
     else if nat_eq n 6 then codes "out of memory"

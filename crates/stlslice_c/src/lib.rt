@@ -4,7 +4,7 @@
 //! ```c
 //! stlslice_options options = {.pitch = 50, .layer = 50};                 // micrometres
 //! stlslice_mesh mesh = STLSLICE_CLOSED;
-//! if (stlslice_open(text, size, &options, &mesh, &shape, line, sizeof line) != STLSLICE_DONE)
+//! if (stlslice_open(bytes, size, &options, &mesh, &shape, line, sizeof line) != STLSLICE_DONE)
 //!     puts(line);                                                        // why not, ended by 0; for arrays stlslice_open_mesh
 //! stlslice_mask(&mesh, k, NULL, 0, &wanted);                             // STLSLICE_NO_ROOM: an image's size, at once
 //! stlslice_mask(&mesh, k, image, wanted, &wanted);                       // the image of layer k
@@ -12,13 +12,13 @@
 //! ```
 //!
 //! - [`Handle`]: an open mesh, or none; C keeps it as a [`MeshPointer`]. Every call but open and close leaves it as it was.
-//! - [`Options`]: what a text or arrays are opened with. [`Cells`]: the numbers of a grid, given or put.
+//! - [`Options`]: what a file or arrays are opened with. [`Cells`]: the numbers of a grid, given or put.
 //! - [`Corners`], [`Shape`], [`Rays`], [`LoopPoint`]: what calls put for C.
 //!
 //! A call returns a status (`status.rt`):
 //! - 0: done
 //! - 1: a number is out of its range or outside the grid, or arrays are no facets
-//! - 3: the text is no ASCII STL
+//! - 3: the file is no STL that can be read
 //! - 4: the mesh has an open edge
 //! - 5: there is no such grid
 //! - 6: an allocation failed
@@ -45,7 +45,7 @@ mod shape;
 mod status;
 
 ghost use Rattle.std.specs.Prelude.{◌≡◌, None, Some};
-ghost use Rattle.layer_session.specs.Session.{Session, of_arrays, of_text};
+ghost use Rattle.layer_session.specs.Session.{Session, of_arrays, of_file};
 ghost use Rattle.stlslice_c.specs.Answers.{IsAreaAnswer, IsAreasAnswer, IsBoxAnswer, IsLine, IsMaskAnswer, IsOpening, IsPngAnswer, IsProbeAnswer, IsStripeAnswer};
 ghost use Rattle.stlslice_c.specs.Loops.{AreAsBefore, IsLoops};
 ghost use Rattle.stlslice_c.specs.Status.{status_text};
@@ -95,22 +95,22 @@ pub extern "C" fn stlslice_fault_text(status: u32, line: &mut [u8])
     put_status(status, line);
 }
 
-/// Reads a text, and puts the number and the box of its facets into `corners`. After a fault `corners` is as it was, and the
-/// fault's text is in `line`. The status is 0, 1 (no such unit), 3 or 6.
+/// Reads a file, binary STL or ASCII STL, and puts the number and the box of its facets into `corners`. After a fault
+/// `corners` is as it was, and the fault's text is in `line`. The status is 0, 1 (no such unit), 3 or 6.
 #[unsafe(no_mangle)]
 pub extern "C" fn stlslice_box(
     alloc: Global,
-    text: &[u8],
+    bytes: &[u8],
     unit: u32,
     corners: &mut Corners,
     line: &mut [u8],
 ) -> u32
-    ensures { IsBoxAnswer unit text.now corners.old corners.new line.old line.new result }
+    ensures { IsBoxAnswer unit bytes.now corners.old corners.new line.old line.new result }
 {
     let Some(unit) = unit_numbered(unit) else {
         return put_status(OUT_OF_RANGE, line);
     };
-    match read_corners(alloc, text, unit) {
+    match read_corners(alloc, bytes, unit) {
         Ok(told) => {
             *corners = told;
             DONE
@@ -119,25 +119,25 @@ pub extern "C" fn stlslice_box(
     }
 }
 
-/// Opens a text: puts its mesh into `handle`, in place of one that it has, and its facets and its grid into `shape`.
-/// After a fault handle and shape are as they were, and the fault's text is in `line`. The status is 0, 1 (an option is
-/// out of its range), 3, 4, 5 or 6.
+/// Opens a file, binary STL or ASCII STL: puts its mesh into `handle`, in place of one that it has, and its facets and its
+/// grid into `shape`. After a fault handle and shape are as they were, and the fault's text is in `line`. The status is 0,
+/// 1 (an option is out of its range), 3, 4, 5 or 6.
 #[unsafe(no_mangle)]
 pub extern "C" fn stlslice_open(
     alloc: Global,
-    text: &[u8],
+    bytes: &[u8],
     options: &Options,
     handle: &mut Handle,
     shape: &mut Shape,
     line: &mut [u8],
 ) -> u32
-    ensures { IsOpening options.now (of_text text.now) handle.old.mesh.session handle.new.mesh.session shape.old shape.new
+    ensures { IsOpening options.now (of_file bytes.now) handle.old.mesh.session handle.new.mesh.session shape.old shape.new
         line.old line.new result }
 {
     let Some(setup) = options.setup() else {
         return put_status(OUT_OF_RANGE, line);
     };
-    let opened = open(alloc, text, &setup);
+    let opened = open(alloc, bytes, &setup);
     keep(alloc, opened, handle, shape, line)
 }
 

@@ -1,13 +1,11 @@
-//! Reading a text: its bounding box, or its session; and the session of arrays. A session is kept in a handle.
+//! Reading a file: its bounding box, or its session; and the session of arrays. A session is kept in a handle.
 ghost use Rattle.std.specs.Prelude.{◌≡◌, Err, IfErr, IfOk, List, Some, length};
 ghost use Rattle.geometry.specs.BoundingBox.{extent};
 ghost use Rattle.geometry.specs.Facet.{Facet};
-ghost use Rattle.geometry.specs.declared.limits.TheConstants.{FACET_LIMIT};
-ghost use Rattle.stl_text.specs.Text.{Reads};
 ghost use Rattle.layer_session.specs.Setup.{HasSteps};
 ghost use Rattle.layer_session.specs.declared.session_fault.SessionFault.TheVariants.{Step};
-ghost use Rattle.layer_session.specs.Session.{IsOpenFault, IsSessionOf, of_arrays, of_text};
-ghost use Rattle.stlslice_c.specs.Answers.{IsFaultLine, IsTextFault};
+ghost use Rattle.layer_session.specs.Session.{IsFaultOfFile, IsOpenFault, IsSessionOf, ReadsFile, of_arrays, of_file};
+ghost use Rattle.stlslice_c.specs.Answers.{IsFaultLine};
 ghost use Rattle.stlslice_c.specs.Shape.{corners_told, shape_told};
 ghost use Rattle.stlslice_c.specs.Status.{status_of};
 ghost use Rattle.stlslice_c.specs.declared.status.TheConstants.{DONE};
@@ -17,35 +15,34 @@ use crate::lines::put_fault;
 use crate::shape::{Corners, Shape, corners_told, shape_told};
 use crate::status::{DONE, Status};
 use geometry::extent;
-use layer_session::{Session, SessionFault, Setup, Unit};
+use layer_session::{Session, SessionFault, Setup, Unit, read_file};
 use std::alloc::{Allocator, Global};
-use stl_text::read_stl;
 
-/// The number and the box of a text's facets.
+/// The number and the box of a file's facets.
 pub(crate) fn read_corners<A: Allocator + Copy + Send + Sync>(
     alloc: A,
-    text: &[u8],
+    bytes: &[u8],
     unit: Unit,
 ) -> Result<Corners, SessionFault>
-    ensures found { IfOk result (λ corners. (facets : List Facet) × Reads FACET_LIMIT unit text.now facets
+    ensures found { IfOk result (λ corners. (facets : List Facet) × ReadsFile unit bytes.now facets
         × (corners ≡ corners_told (length facets) (extent facets))) }
-    ensures fault { IfErr result (IsTextFault unit text.now) }
+    ensures fault { IfErr result (IsFaultOfFile unit bytes.now) }
 {
-    let facets = read_stl(alloc, text, unit)?;
+    let facets = read_file(alloc, bytes, unit)?;
     Ok(corners_told(facets.len(), extent(facets.as_slice())))
 }
 
-/// The session of a text.
+/// The session of a file.
 pub(crate) fn open<A: Allocator + Copy + Send + Sync>(
     alloc: A,
-    text: &[u8],
+    bytes: &[u8],
     setup: &Setup,
 ) -> Result<Box<Session<A>, A>, SessionFault>
-    ensures found { IfOk result (λ session. IsSessionOf setup.now (of_text text.now) session.value) }
-    ensures fault { IfErr result (IsOpenFault setup.now (of_text text.now)) }
+    ensures found { IfOk result (λ session. IsSessionOf setup.now (of_file bytes.now) session.value) }
+    ensures fault { IfErr result (IsOpenFault setup.now (of_file bytes.now)) }
     ensures step { (HasSteps setup.now → ⊥) → result ≡ Err Step }
 {
-    let session = Session::open(alloc, text, setup)?;
+    let session = Session::open(alloc, bytes, setup)?;
     match Box::new(alloc, session) {
         Ok(session) => Ok(session),
         Err(_) => Err(SessionFault::Memory),

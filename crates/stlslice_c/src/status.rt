@@ -13,7 +13,7 @@ pub(crate) const DONE: Status = 0;
 /// An argument is out of its range, arrays among them, or there is no such layer, stripe or voxel.
 pub(crate) const OUT_OF_RANGE: Status = 1;
 
-/// The text is no ASCII STL.
+/// The file is no STL that can be read.
 pub(crate) const TEXT: Status = 3;
 
 /// The mesh has an open edge.
@@ -37,7 +37,7 @@ pub(crate) fn status_of(fault: &SessionFault) -> Status
 {
     match fault {
         SessionFault::Step | SessionFault::Arrays(_) | SessionFault::Outside { .. } => OUT_OF_RANGE,
-        SessionFault::Stl(_) => TEXT,
+        SessionFault::Stl(_) | SessionFault::Binary(_) => TEXT,
         SessionFault::Weld(_) => OPEN_MESH,
         SessionFault::Grid(_) => GRID,
         SessionFault::Memory => MEMORY,
@@ -51,7 +51,7 @@ pub(crate) fn status_text(status: Status) -> &'static [u8]
     match status {
         DONE => b"done",
         OUT_OF_RANGE => b"a number is out of its range, or outside the grid",
-        TEXT => b"the text is no ASCII STL",
+        TEXT => b"the file is no STL that can be read",
         OPEN_MESH => b"the mesh has an open edge",
         GRID => b"there is no such grid",
         MEMORY => b"out of memory",

@@ -64,7 +64,8 @@ by_checks setup input (Ok session) is =
     inr (is.range, inr (is.facets, is.reads, inl (is.closed, of_session setup input session is)))
 by_checks setup input (Err fault.Step) (apart, is) = inl (is, refl)
 by_checks setup input (Err (fault.Stl cause)) (apart, (range, is)) = inr (range, inl (fault.Stl cause, inl (cause, is, refl), refl))
-by_checks setup input (Err (fault.Arrays cause)) (apart, (range, is)) = inr (range, inl (fault.Arrays cause, inr (cause, is, refl), refl))
+by_checks setup input (Err (fault.Binary cause)) (apart, (range, is)) = inr (range, inl (fault.Binary cause, inr (inl (cause, is, refl)), refl))
+by_checks setup input (Err (fault.Arrays cause)) (apart, (range, is)) = inr (range, inl (fault.Arrays cause, inr (inr (cause, is, refl)), refl))
 by_checks setup input (Err (fault.Weld (weld.Open from to there back))) (apart, (range, (facets, reads, is))) =
     inr (range, inr (facets, reads, inr (from, to, there, back, is, refl)))
 by_checks setup input (Err (fault.Weld weld.Memory)) (apart, is) = absurd is
@@ -162,7 +163,8 @@ an_answer setup input = by_setup (in_range setup)
 
     by_fault : HasSteps setup → (f : SessionFault) → IsRefused setup input f → An
     by_fault range f (inl (cause, h, is)) = (Err (fault.Stl cause), ((λ k. cc), (range, h)))
-    by_fault range f (inr (cause, h, is)) = (Err (fault.Arrays cause), ((λ k. cc), (range, h)))
+    by_fault range f (inr (inl (cause, h, is))) = (Err (fault.Binary cause), ((λ k. cc), (range, h)))
+    by_fault range f (inr (inr (cause, h, is))) = (Err (fault.Arrays cause), ((λ k. cc), (range, h)))
 
     by_input : HasSteps setup → ((facets : List Facet) × IsReadAs setup input facets) ⊎ ((f : SessionFault) × IsRefused setup input f) → An
     by_input range (inl h) = by_mesh range h.0 h.1 (closed_or_open h.0)
