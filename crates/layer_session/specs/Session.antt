@@ -7,10 +7,10 @@ use Rattle.geometry.specs.declared.limits.TheConstants.{FACET_LIMIT}
 use Rattle.micro_num.specs.declared.unit.Unit.{Unit as LengthUnit}
 use Rattle.stl_text.specs.Text.{IsFaultOf, Reads}
 use Rattle.stl_text.specs.declared.stl_fault.StlFault.{StlFault}
-use Rattle.binary_stl.specs.Binary.{IsBinary, IsFaultOf as IsFaultOfBinary, Reads as ReadsBinary}
+use Rattle.binary_stl.specs.Binary.{IsBinary, IsFaultOfBinary, ReadsBinary}
 use Rattle.binary_stl.specs.declared.binary_fault.BinaryFault.{BinaryFault}
 use Rattle.mesh_arrays.specs.declared.array_fault.ArrayFault.{ArrayFault}
-use Rattle.mesh_arrays.specs.Arrays.{IsFaultOfArrays, ReadsArrays as Spells}
+use Rattle.mesh_arrays.specs.Arrays.{IsFaultOfArrays, ReadsArrays}
 use Rattle.mesh_weld.specs.Balance.{IsBalanced, IsLeastOpen}
 use Rattle.mesh_weld.specs.Solid.{solid_of}
 use Rattle.mesh_weld.specs.declared.weld_fault.WeldFault.TheVariants as weld
@@ -53,7 +53,7 @@ pub data Input : Type 0 where
 abbrev pub IsReadAs : Setup → Input → List Facet → Type 0
 IsReadAs setup (of_file bytes) facets = ReadsFile setup.unit bytes facets
 IsReadAs setup (of_text bytes) facets = Reads FACET_LIMIT setup.unit bytes facets
-IsReadAs setup (of_arrays points triangles) facets = Spells points triangles facets
+IsReadAs setup (of_arrays points triangles) facets = ReadsArrays points triangles facets
 
 -- The input is read as facets of a closed mesh, which has a grid. Solid, grid, rule, number and box are theirs.
 pub record IsSessionOf (setup : Setup) (input : Input) (session : Session) : Type 0 where
