@@ -1,6 +1,5 @@
 -- The least number of micrometres that is a whole number of either side of a pixel.
 use Rattle.std.proofs.Common.{◌≡◌, ℕ, zero, suc, ◌+◌, ◌*◌, ◌<◌, ◌≤◌, ◌⊎◌, inl, inr, subst, arith}
-use Rattle.std.proofs.Math.Nat.{lt_of_not-le}
 use Rattle.part_on_screen.specs.Pitch.{IsMultiple}
 use Rattle.part_on_screen.specs.declared.pixel_side.PixelSide.{PixelSide}
 

@@ -1,12 +1,12 @@
 -- A screen with a part in its middle, and its grid.
-use Rattle.std.proofs.Common.{◌≡◌, ℕ, zero, suc, ◌+◌, ◌-◌, ◌*◌, ◌/◌, ◌<◌, ◌≤◌, ◌⊎◌, inl, inr, List, [], ◌∷◌, Some, None, Ok, Err, Result, refl, ap, sym, ◌∙◌, subst, arith}
+use Rattle.std.proofs.Common.{◌≡◌, ℕ, ◌+◌, ◌-◌, ◌*◌, ◌/◌, ◌<◌, ◌≤◌, ◌⊎◌, inl, inr, List, [], ◌∷◌, Some, None, Ok, Err, Result, refl, ap, sym, ◌∙◌, subst, arith}
 use Rattle.std.specs.Prelude.{IfErr, IfSome, Option, length, option_map, ℤ, pos, ◌+ℤ◌, ◌-ℤ◌, ◌*ℤ◌, ◌≤ℤ◌, ◌<ℤ◌, unsigned_abs}
 use Rattle.std.proofs.lemmas.Int.{ints}
 use Rattle.exact_int.specs.Bounds.{IsAtMost}
 use Rattle.exact_int.specs.Division.{IsCeilDiv}
 use Rattle.exact_int.proofs.lemmas.Signs.{antisym}
 use Rattle.exact_int.proofs.lemmas.Sizes.{at_most_by}
-use Rattle.geometry.specs.BoundingBox.{Bounds, bounds, corner_pair, extent}
+use Rattle.geometry.specs.BoundingBox.{Bounds, bounds, extent}
 use Rattle.geometry.specs.Facet.{Facet}
 use Rattle.geometry.specs.Limits.{IsStep}
 use Rattle.geometry.specs.declared.limits.TheConstants.{CENTRE_LIMIT, COORDINATE_LIMIT, LAYER_LIMIT}
