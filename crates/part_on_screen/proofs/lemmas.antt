@@ -1,0 +1,5 @@
+pub mod Pitches
+pub mod Stretches
+pub mod Layers
+pub mod Places
+pub mod Standing

@@ -1,0 +1,23 @@
+-- How parts stand on a screen.
+-- - `PartsAreOnScreen`: the part lies between the sides of its grid
+-- - `PointsStayApart`: different points of a part are different on the screen, so edges meet there exactly if they met before
+use Rattle.std.specs.Prelude.{◌≡◌, ◌≤ℤ◌, ◌+ℤ◌, pos, ℕ}
+use Rattle.geometry.specs.BoundingBox.{IsBox}
+use Rattle.geometry.specs.Point.{Point}
+use Rattle.raster.specs.Grid.{Grid}
+use Rattle.part_on_screen.specs.Middle.{IsGridOn, screen_depth, screen_width}
+use Rattle.part_on_screen.specs.Screen.{IsScreen, Screen}
+use Rattle.part_on_screen.specs.Stretched.{on_screen}
+
+-- the box of the part is between the least and the greatest x and y of the grid
+pub record IsBetweenSides (s : Screen) (low high : Point) (g : Grid) : Type 0 where
+  pub left : g.origin.x ≤ℤ low.x
+  pub right : high.x ≤ℤ (g.origin.x +ℤ pos (screen_width s))
+  pub front : g.origin.y ≤ℤ low.y
+  pub back : high.y ≤ℤ (g.origin.y +ℤ pos (screen_depth s))
+
+abbrev pub PartsAreOnScreen : Type 0
+PartsAreOnScreen = (s : Screen) (low high : Point) (layer_height : ℕ) (g : Grid) → IsBox low high → IsGridOn s low high layer_height g → IsBetweenSides s low high g
+
+abbrev pub PointsStayApart : Type 0
+PointsStayApart = (s : Screen) (p q : Point) → IsScreen s → on_screen s p ≡ on_screen s q → p ≡ q

@@ -1,0 +1,119 @@
+//! Points, facets and parts as they stand on a screen.
+ghost use Rattle.std.specs.Prelude.{◌≡◌, ◌↔◌, ◌*ℤ◌, IfErr, IfOk, IfSome, IsNone, IsSome, IsTrue, pos, ℤ};
+ghost use Rattle.exact_int.specs.Bounds.{IsAtMost};
+ghost use Rattle.geometry.specs.Limits.{IsStep};
+ghost use Rattle.geometry.specs.Point.{IsMeshPoint};
+ghost use Rattle.geometry.specs.declared.limits.TheConstants.{COORDINATE_LIMIT};
+ghost use Rattle.part_on_screen.specs.Middle.{HasMeshPoints, IsGridOfPart, IsInReach, IsNoGridOfPart, IsNoPlacing, IsPlacing};
+ghost use Rattle.part_on_screen.specs.Stretched.{facet_on_screen, on_screen, part_on_screen};
+ghost use Rattle.part_on_screen.specs.Turned.{turned};
+
+use crate::quarters::Quarters;
+use crate::screen::Screen;
+use crate::screen_fault::ScreenFault;
+use geometry::{Facet, Point, extent};
+use raster::Grid;
+use std::alloc::Allocator;
+
+impl Screen {
+    /// The facets of a part as they stand on this screen, in order, and their grid with this layer height (micrometres, 1 to
+    /// `STEP_LIMIT`), as of [`Screen::grid`]. The facets take the place of those that were given, so no memory is needed.
+    ///
+    /// # Errors
+    /// The first of these that applies:
+    /// - `NoFacets` if there are no facets,
+    /// - `OutOfRange` if a multiplied coordinate is more than `COORDINATE_LIMIT` from 0,
+    /// - those of [`Screen::grid`].
+    pub fn place<A: Allocator>(
+        &self,
+        facets: Vec<Facet, A>,
+        layer_height: u32,
+    ) -> Result<(Vec<Facet, A>, Grid), ScreenFault>
+        requires { IsStep layer_height }
+        ensures found { IfOk result (λ found. IsPlacing self.now facets.items layer_height found.0.items found.1) }
+        ensures fault { IfErr result (IsNoPlacing self.now facets.items layer_height) }
+    {
+        let mut facets = facets;
+        if !self.put_all(facets.as_mut_slice()) {
+            return Err(ScreenFault::OutOfRange);
+        }
+        let grid = self.grid_of_part(facets.as_slice(), layer_height)?;
+        Ok((facets, grid))
+    }
+
+    /// The grid of facets that are on the screen.
+    fn grid_of_part(&self, placed: &[Facet], layer_height: u32) -> Result<Grid, ScreenFault>
+        requires { IsStep layer_height }
+        ensures found { IfOk result (IsGridOfPart self.now placed.now layer_height) }
+        ensures fault { IfErr result (IsNoGridOfPart self.now placed.now layer_height) }
+    {
+        match extent(placed) {
+            None => Err(ScreenFault::NoFacets),
+            Some((low, high)) => self.grid(low, high, layer_height),
+        }
+    }
+
+    /// Puts each facet where it stands on the screen, and returns `true`. If a coordinate of one is out of range there, it returns
+    /// `false`.
+    fn put_all(&self, facets: &mut [Facet]) -> bool
+        ensures all { IsTrue result → facets.new ≡ part_on_screen self.now facets.old }
+        ensures reach { IsTrue result ↔ IsInReach (part_on_screen self.now facets.old) }
+    {
+        for facet in facets.iter_mut() {
+            match self.facet(*facet) {
+                Some(placed) => *facet = placed,
+                None => return false,
+            }
+        }
+        true
+    }
+
+    /// A facet of a part as it stands on this screen. `None` exactly if a coordinate is more than `COORDINATE_LIMIT` from 0 there.
+    pub fn facet(&self, facet: Facet) -> Option<Facet>
+        ensures some { IsSome result ↔ HasMeshPoints (facet_on_screen self.now facet) }
+        ensures value { IfSome result (λ placed. placed ≡ facet_on_screen self.now facet) }
+    {
+        Some(Facet::of(
+            self.point(facet.corner(0))?,
+            self.point(facet.corner(1))?,
+            self.point(facet.corner(2))?,
+        ))
+    }
+
+    /// A point of a part as it stands on this screen: turned about the z axis, then with x and y multiplied. `None` exactly if a
+    /// coordinate is more than `COORDINATE_LIMIT` from 0 there.
+    pub fn point(&self, p: Point) -> Option<Point>
+        ensures some { IsSome result ↔ IsMeshPoint (on_screen self.now p) }
+        ensures value { IfSome result (λ placed. placed ≡ on_screen self.now p) }
+    {
+        let (x, y) = turned(self.turn, p.x(), p.y());
+        Point::new(
+            multiplied(x, self.times_x)?,
+            multiplied(y, self.times_y)?,
+            p.z(),
+        )
+    }
+}
+
+/// x and y after a turn.
+fn turned(turn: Quarters, x: i32, y: i32) -> (i32, i32)
+    requires x { IsAtMost COORDINATE_LIMIT x }
+    requires y { IsAtMost COORDINATE_LIMIT y }
+    ensures x { (z : ℤ) → result.0 ≡ (turned turn (record { x = x; y = y; z = z })).x }
+    ensures y { (z : ℤ) → result.1 ≡ (turned turn (record { x = x; y = y; z = z })).y }
+{
+    match turn {
+        Quarters::Zero => (x, y),
+        Quarters::One => (-y, x),
+        Quarters::Two => (-x, -y),
+        Quarters::Three => (y, -x),
+    }
+}
+
+/// The product of a coordinate and a number, or `None` if it does not fit its type, which has all coordinates.
+fn multiplied(coordinate: i32, times: u64) -> Option<i32>
+    ensures value { IfSome result (λ product. product ≡ coordinate *ℤ pos times) }
+    ensures none { IsNone result → IsAtMost COORDINATE_LIMIT (coordinate *ℤ pos times) → ⊥ }
+{
+    i32::try_from(i128::from(coordinate) * i128::from(times)).ok()
+}
