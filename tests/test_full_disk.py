@@ -62,13 +62,13 @@ class FullDisk(Case):
 
     @needs("parallel")
     def test_slabs_with_a_full_temporary_folder_are_told(self):
-        """Full before the slabs begin, and while they are made."""
+        """Full before the slabs begin, and within the first of them, however long the others take."""
         out, env = self.room.file("slabs"), self.room.with_env(TMPDIR=self.disk)
         line = f"stlslice-slabs: the temporary folder {self.disk} can't be used: {FULL}\n"
         self.leave(0)
         same(self.slabs(out, "-j", "4", env=env), (1, "", line), "full at once")
         self.holds_as_before()
-        self.leave(200_000)
+        self.leave(100_000)
         ran = self.slabs(out, "-j", "4", env=env)
         assert ran.status in (1, 7) and ran.out == "", ran
         assert ran.fault.splitlines()[-1].startswith(("stlslice: ", "stlslice-slabs: ")), ran
