@@ -25,7 +25,7 @@ BELIEVED = (
     ("believe-png.html", "stlslice.SlicedText.pngs", ["layer_png.Text.layer_png"]),
     ("believe-box.html", "stlslice.Outcome.box_text", ["stlslice.Outcome.probed", "contour.Loops.loops", "geometry.Winding.ray_y"]),
     ("believe-words.html", "task_words.read_words", ["task_words.Words.StandFor", "task_words.Words.options", "task_words.Options.said"]),
-    ("believe-mask.html", "stlslice_c.stlslice_mask",
+    ("believe-mask.html", "stlslice_c.ask_mask",
      ["stlslice_c.Answers.IsMaskAnswer", "raster.Image.layer_image", "geometry.Winding.ray", "raster.Rule.is_inside"]))
 
 
