@@ -22,7 +22,7 @@ LIBRARY_OF_aarch64-linux := build/aarch64-linux/libstlslice.so.$(VERSION)
 LIBRARY_OF_x86_64-windows := build/x86_64-windows/stlslice.dll
 # the module of LLVM that the library is compiled from; those for other machines, and the page, are compiled from it too
 LLVM_MODULE := build/made/module.bc
-LIBRARY_SOURCES := include/stlslice.h library/build library/edge.c library/exports.map library/stlslice.pc
+LIBRARY_SOURCES := include/stlslice.h library/build library/exports.map library/stlslice.pc
 
 SHARE = $(PREFIX)/share
 LIB = $(PREFIX)/lib

@@ -35,7 +35,7 @@ TOLD = [
     ("docs/PROVED.md", "- `deflate` writes", "\n",
      [("write_zlib", "crates/deflate/src/whole.rt"), ("finish", "crates/deflate/src/zlib.rt")]),
     ("docs/embedding.md", "| `stlslice_mask`, `_stripe`", "\n",
-     [(f"stlslice_{it}", C_CALLS) for it in ("mask", "stripe", "area", "loops", "probe")]),
+     [(f"ask_{it}", C_CALLS) for it in ("mask", "stripe", "area", "loops", "probe")]),
     ("docs/embedding.md", "exactly the layer's pixels", "\n", [("png", SESSION)]),
 ]
 

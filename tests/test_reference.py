@@ -30,7 +30,7 @@ BELIEVED = (
     ("believe-words.html", "task_words.read_words",
      ["task_words.Words.StandFor", "task_words.Words.options", "task_words.Options.said", "task_words.wants_progress",
       "task_words.WordFault.word_fault_text"]),
-    ("believe-mask.html", "stlslice_c.stlslice_mask",
+    ("believe-mask.html", "stlslice_c.ask_mask",
      ["stlslice_c.Answers.IsMaskAnswer", "raster.Image.layer_image", "geometry.Winding.ray", "raster.Rule.is_inside"]))
 
 # Examples: the crate and the definition, whose name may be that of others too, and how its example begins.

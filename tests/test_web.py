@@ -8,7 +8,7 @@ import sys
 from common import PROGRAM, ROOT, Case, is_old, library, needs, same, skip, text_of
 
 PAGE = "build/web/preview.html"
-OF_C = ["library/edge.c", "library/web/heap.c", "library/web/runtime.c"]
+OF_C = ["library/web/heap.c", "library/web/runtime.c"]
 OF_SCRIPT = [f"library/web/{name}" for name in sorted(os.listdir(os.path.join(ROOT, "library", "web"))) if name.endswith(".js")]
 LONGEST = 300  # lines of a file of the page
 
@@ -18,9 +18,8 @@ class Web(Case):
         """To the next ten."""
         section = text_of("docs/embedding.md").split("\n## A page that slices\n")[1]
         told = re.search(r"(\d+) lines of C\b.*?(\d+) of JavaScript", section).groups()
-        edge = re.search(r"`library/edge\.c`, (\d+) lines of C\b", text_of("docs/decisions/edge-in-c.md"))[1]
         heap = re.search(r"some (\d+) lines of C\b", text_of("docs/decisions/page-from-the-native-module.md"))[1]
-        for number, names in zip((*told, edge, heap), (OF_C, OF_SCRIPT, ["library/edge.c"], ["library/web/heap.c"])):
+        for number, names in zip((*told, heap), (OF_C, OF_SCRIPT, ["library/web/heap.c"])):
             lines = sum(text_of(name).count("\n") for name in names)
             assert abs(int(number) - lines) < 10, f"{number} lines are told, and {names} have {lines}"
         assert all(text_of(name).count("\n") <= LONGEST for name in OF_SCRIPT), "a long script"

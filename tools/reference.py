@@ -62,7 +62,7 @@ BELIEVED = [
              "has its default. The box goes before the probe, the probe before the report, the report before PNGs. If a text is "
              "wrong or something is missing, the fault is the first in the documented order. If the words ask for help or the "
              "version, that is told as a refusal."),
-    Believed("believe-mask", "stlslice_mask", "stlslice_c", ["stlslice_mask"], [], "",
+    Believed("believe-mask", "ask_mask", "stlslice_c", ["ask_mask"], [], "",
              "This is the image of one layer, as a caller in C gets it. The handle has an opened mesh, or none. With a mesh, the "
              "image of layer k is put into the buffer, if that is large enough. Else only the size that it needs is put. Any "
              "other status leaves all of the caller's as it was."),

@@ -2,8 +2,23 @@
 #ifndef CHECKS_H
 #define CHECKS_H
 
+#include "stlslice.h"
+
+#include <assert.h>
 #include <stdio.h>
 #include <stdlib.h>
+
+/* the sizes of the proved library's types, and where fields lie in them */
+static_assert(sizeof(stlslice_options) == 44, "as `Options` of crates/stlslice_c/src/options.rt");
+static_assert(offsetof(stlslice_options, placing) == 16 && offsetof(stlslice_options, columns) == 20, "as `Options`");
+static_assert(offsetof(stlslice_options, origin) == 32, "as `Options`");
+static_assert(sizeof(stlslice_corners) == 32, "as `Corners` of crates/stlslice_c/src/shape.rt");
+static_assert(offsetof(stlslice_corners, low) == 8 && offsetof(stlslice_corners, high) == 20, "as `Corners`");
+static_assert(sizeof(stlslice_shape) == 56, "as `Shape` of crates/stlslice_c/src/shape.rt");
+static_assert(offsetof(stlslice_shape, columns) == 32 && offsetof(stlslice_shape, origin) == 44, "as `Shape`");
+static_assert(sizeof(stlslice_rays) == 8, "as `Rays` of crates/stlslice_c/src/shape.rt");
+static_assert(sizeof(stlslice_point) == 16, "as `LoopPoint` of crates/stlslice_c/src/loops.rt");
+static_assert(sizeof(stlslice_mesh) == 16 && offsetof(stlslice_mesh, at) == 8, "as `Handle` of crates/stlslice_c/src/handle.rt");
 
 #define CHECK(holds)                                                                                                   \
     do {                                                                                                               \

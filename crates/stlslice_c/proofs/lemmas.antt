@@ -1,1 +1,4 @@
 pub mod Values
+pub mod Lending
+pub mod Walk
+pub mod Given

@@ -4,3 +4,5 @@ pub mod Options
 pub mod Status
 pub mod Answers
 pub mod Loops
+pub mod Pointers
+pub mod Calls

@@ -1,5 +1,5 @@
 //! The slicer for C: sessions of `layer_session` behind a handle that C keeps. `include/stlslice.h` declares the calls, and
-//! `library/edge.c` takes null pointers out of their way.
+//! [`exports`] has them as C makes them: with pointers that may be null. This file has them on references.
 //!
 //! ```c
 //! stlslice_options options = {.pitch = 50, .layer = 50};                 // micrometres
@@ -35,12 +35,15 @@
 mod answers;
 mod box_parts;
 mod buffers;
+pub mod exports;
+mod given;
 mod handle;
 mod lines;
 mod loops;
 mod mesh_pointer;
 mod opening;
 mod options;
+mod places;
 mod shape;
 mod status;
 
@@ -88,8 +91,7 @@ pub extern "C" fn stlslice_version() -> u32
 }
 
 /// Puts the text of a status into `line`: as much as fits, with a 0 after it.
-#[unsafe(no_mangle)]
-pub extern "C" fn stlslice_fault_text(status: u32, line: &mut [u8])
+pub fn put_text(status: u32, line: &mut [u8])
     ensures { IsLine (status_text status) line.old line.new }
 {
     put_status(status, line);
@@ -97,8 +99,7 @@ pub extern "C" fn stlslice_fault_text(status: u32, line: &mut [u8])
 
 /// Reads a file, binary STL or ASCII STL, and puts the number and the box of its facets into `corners`. After a fault
 /// `corners` is as it was, and the fault's text is in `line`. The status is 0, 1 (no such unit), 3 or 6.
-#[unsafe(no_mangle)]
-pub extern "C" fn stlslice_box(
+pub fn read_box(
     alloc: Global,
     bytes: &[u8],
     unit: u32,
@@ -122,8 +123,7 @@ pub extern "C" fn stlslice_box(
 /// Opens a file, binary STL or ASCII STL: puts its mesh into `handle`, in place of one that it has, and its facets and its
 /// grid into `shape`. After a fault handle and shape are as they were, and the fault's text is in `line`. The status is 0,
 /// 1 (an option is out of its range), 3, 4, 5 or 6.
-#[unsafe(no_mangle)]
-pub extern "C" fn stlslice_open(
+pub fn open_file(
     alloc: Global,
     bytes: &[u8],
     options: &Options,
@@ -145,8 +145,7 @@ pub extern "C" fn stlslice_open(
 /// into `shape`. The points are in micrometres, whatever unit the options have. After a fault handle and shape are as
 /// they were, and the fault's text is in `line`. The status is 0, 1 (an option is out of its range, or the arrays are
 /// no facets), 4, 5 or 6.
-#[unsafe(no_mangle)]
-pub extern "C" fn stlslice_open_mesh(
+pub fn open_arrays(
     alloc: Global,
     points: &[[i32; 3]],
     triangles: &[[u32; 3]],
@@ -166,8 +165,7 @@ pub extern "C" fn stlslice_open_mesh(
 }
 
 /// Closes a handle, and frees its mesh. A closed handle may be closed again.
-#[unsafe(no_mangle)]
-pub extern "C" fn stlslice_close(alloc: Global, handle: &mut Handle)
+pub fn close_handle(alloc: Global, handle: &mut Handle)
     ensures { handle.new.mesh.session ≡ None }
 {
     drop(handle.take(alloc));
@@ -175,8 +173,7 @@ pub extern "C" fn stlslice_close(alloc: Global, handle: &mut Handle)
 
 /// Puts the image of layer k into the front of `image`, as raw PBM, and its size in bytes into `wanted`. If it does not
 /// fit, only the size is put, and nothing is sliced. The status is 0, 1 (no such layer), 6, 7 or 8.
-#[unsafe(no_mangle)]
-pub extern "C" fn stlslice_mask(
+pub fn ask_mask(
     alloc: Global,
     handle: &mut Handle,
     k: u32,
@@ -194,8 +191,7 @@ pub extern "C" fn stlslice_mask(
 /// Puts the images of a stripe into the front of `images`, one after the other, and their size in bytes into `wanted`.
 /// The stripe is the layers from 8 s to 8 s + 7, as far as the grid has them. If they do not fit, only the size is put,
 /// and nothing is sliced. The status is 0, 1 (no such stripe), 6, 7 or 8.
-#[unsafe(no_mangle)]
-pub extern "C" fn stlslice_stripe(
+pub fn ask_stripe(
     alloc: Global,
     handle: &mut Handle,
     s: u64,
@@ -213,8 +209,7 @@ pub extern "C" fn stlslice_stripe(
 /// Puts the PNG of layer k into the front of `png`, and its size in bytes into `wanted`. A pixel has `depth` bits, 1 or
 /// 8. `mirrors` is 0, 1 for x, 2 for y, or 3 for both. Sizes differ from layer to layer. If `png` is too short, only
 /// the size is put, which takes as long. The status is 0, 1 (no such layer, depth or mirrors), 6, 7 or 8.
-#[unsafe(no_mangle)]
-pub extern "C" fn stlslice_png(
+pub fn ask_png(
     alloc: Global,
     handle: &mut Handle,
     k: u32,
@@ -232,8 +227,7 @@ pub extern "C" fn stlslice_png(
 }
 
 /// Puts the number of filled pixels of layer k into `area`. The status is 0, 1 (no such layer), 6 or 8.
-#[unsafe(no_mangle)]
-pub extern "C" fn stlslice_area(alloc: Global, handle: &mut Handle, k: u32, area: &mut u64) -> u32
+pub fn ask_area(alloc: Global, handle: &mut Handle, k: u32, area: &mut u64) -> u32
     ensures kept { handle.new.mesh.session ≡ handle.old.mesh.session }
     ensures open { (session : Session) → handle.old.mesh.session ≡ Some session
         → IsAreaAnswer session.job k area.old area.new result }
@@ -244,13 +238,7 @@ pub extern "C" fn stlslice_area(alloc: Global, handle: &mut Handle, k: u32, area
 
 /// Puts the numbers of filled pixels of the layers from `first` on into `areas`: as many as it has places. This is faster than
 /// one by one. The status is 0, 1 (no such layers), 6 or 8.
-#[unsafe(no_mangle)]
-pub extern "C" fn stlslice_areas(
-    alloc: Global,
-    handle: &mut Handle,
-    first: u32,
-    areas: &mut [u64],
-) -> u32
+pub fn ask_areas(alloc: Global, handle: &mut Handle, first: u32, areas: &mut [u64]) -> u32
     ensures kept { handle.new.mesh.session ≡ handle.old.mesh.session }
     ensures open { (session : Session) → handle.old.mesh.session ≡ Some session
         → IsAreasAnswer session.job first areas.old areas.new result }
@@ -261,15 +249,7 @@ pub extern "C" fn stlslice_areas(
 
 /// Puts the signed crossings of the rays along x and along y from the centre of a voxel into `rays`. The voxel is in
 /// column i, row j and layer k. The status is 0, 1 (no such voxel) or 8.
-#[unsafe(no_mangle)]
-pub extern "C" fn stlslice_probe(
-    alloc: Global,
-    handle: &mut Handle,
-    i: u32,
-    j: u32,
-    k: u32,
-    rays: &mut Rays,
-) -> u32
+pub fn ask_probe(alloc: Global, handle: &mut Handle, i: u32, j: u32, k: u32, rays: &mut Rays) -> u32
     ensures kept { handle.new.mesh.session ≡ handle.old.mesh.session }
     ensures open { (session : Session) → handle.old.mesh.session ≡ Some session
         → IsProbeAnswer session.job i j k rays.old rays.new result }
@@ -282,8 +262,7 @@ pub extern "C" fn stlslice_probe(
 /// and `ends_wanted`. The points of all loops go into `points`, one loop after the other. For each loop the position
 /// after its last point goes into `ends`. If one of the buffers is too small, only the numbers are put. The status is
 /// 0, 1 (no such layer), 6, 7 or 8.
-#[unsafe(no_mangle)]
-pub extern "C" fn stlslice_loops(
+pub fn ask_loops(
     alloc: Global,
     handle: &mut Handle,
     k: u32,

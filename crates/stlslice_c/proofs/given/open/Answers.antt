@@ -1,0 +1,23 @@
+use Rattle.std.proofs.Common.{◌≡◌, ◌∷◌, slice_set, get_or, ap}
+use Rattle.layer_session.specs.Session.{of_file}
+use Rattle.stlslice_c.proofs.lemmas.Given.{opened_at}
+use Rattle.std.specs.Prelude.{pos}
+use Rattle.stlslice_c.specs.declared.options.Options.{Options}
+use Rattle.stlslice_c.specs.declared.shape.Shape.{Shape}
+use Rattle.stlslice_c.proofs.given.open.Goals as goal
+
+abbrev options_of_zeros : Options
+options_of_zeros = record { pitch = 0; layer = 0; rule = 0; unit = 0; placing = 0; cells = record { columns = 0; rows = 0; layers = 0; origin_x = pos 0; origin_y = pos 0; origin_z = pos 0 } }
+
+abbrev shape_of_zeros : Shape
+shape_of_zeros = record { corners = record { facets = 0; low_x = pos 0; low_y = pos 0; low_z = pos 0; high_x = pos 0; high_y = pos 0; high_z = pos 0 }; cells = record { columns = 0; rows = 0; layers = 0; origin_x = pos 0; origin_y = pos 0; origin_z = pos 0 } }
+
+pub returns-clause-answered : goal.returns-clause-answered
+returns-clause-answered c size room o x y d e f =
+    let new = c.open_file.new in (
+      new.handle,
+      new.shape,
+      ap (λ zs. slice_set zs 0 new.handle) e,
+      ap (λ zs. slice_set zs 0 new.shape) f,
+      opened_at (of_file c.args.text.now) new.handle new.shape c.args.line.now new.line c.open_file.result (ap (λ zs. get_or zs 0 options_of_zeros) d) (ap (λ zs. get_or zs 0 c.index-mesh-0.result) e) (ap (λ zs. get_or zs 0 shape_of_zeros) f) c.open_file.ensures,
+    )
