@@ -3,3 +3,4 @@ pub mod Stretches
 pub mod Layers
 pub mod Places
 pub mod Standing
+pub mod StretchedRays

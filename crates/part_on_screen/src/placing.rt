@@ -53,8 +53,8 @@ impl Screen {
         }
     }
 
-    /// Puts each facet where it stands on the screen, and returns `true`. If a coordinate of one is out of range there, it returns
-    /// `false`.
+    /// Puts each facet where it stands on the screen, and returns `true`. It returns `false` if a coordinate is out of range
+    /// there.
     fn put_all(&self, facets: &mut [Facet]) -> bool
         ensures all { IsTrue result → facets.new ≡ part_on_screen self.now facets.old }
         ensures reach { IsTrue result ↔ IsInReach (part_on_screen self.now facets.old) }
@@ -68,7 +68,8 @@ impl Screen {
         true
     }
 
-    /// A facet of a part as it stands on this screen. `None` exactly if a coordinate is more than `COORDINATE_LIMIT` from 0 there.
+    /// A facet of a part as it stands on this screen. `None` exactly if a coordinate is more than `COORDINATE_LIMIT` from 0
+    /// there.
     pub fn facet(&self, facet: Facet) -> Option<Facet>
         ensures some { IsSome result ↔ HasMeshPoints (facet_on_screen self.now facet) }
         ensures value { IfSome result (λ placed. placed ≡ facet_on_screen self.now facet) }

@@ -1,9 +1,11 @@
-//! Tests of sessions and of their outlines, and of the zlib streams that PNGs have. They are in a
+//! Tests of sessions, of their outlines, of parts on screens, and of the zlib streams that PNGs have. They are in a
 //! crate of their own, because a crate's tests are proved with the whole crate once more.
 #![tactic(auto)]
 
 #[cfg(test)]
 mod outlines;
+#[cfg(test)]
+mod screens;
 #[cfg(test)]
 mod session_arrays;
 #[cfg(test)]
