@@ -7,6 +7,8 @@ mod outlines;
 #[cfg(test)]
 mod session_arrays;
 #[cfg(test)]
+mod session_binaries;
+#[cfg(test)]
 mod session_chunks;
 #[cfg(test)]
 mod session_pngs;
