@@ -9,6 +9,8 @@ mod screens;
 #[cfg(test)]
 mod session_arrays;
 #[cfg(test)]
+mod session_binaries;
+#[cfg(test)]
 mod session_chunks;
 #[cfg(test)]
 mod session_pngs;
