@@ -1,7 +1,11 @@
 //! The calls, on what lies at the pointers that C gives. A null pointer is an empty slice, and so is a buffer of a size
 //! that no object has. These are told by the slice's length.
 ghost use Rattle.std.specs.Prelude.{◌≡◌};
-ghost use Rattle.stlslice_c.specs.Calls.{IsAreaAnswered, IsAreaRefused, IsAreasAnswered, IsAreasRefused, IsBoxAnswered, IsBoxRefused, IsCloseAnswered, IsCloseRefused, IsLoopsAnswered, IsLoopsRefused, IsMaskAnswered, IsMaskRefused, IsOpenAnswered, IsOpenMeshAnswered, IsOpenMeshRefused, IsOpenRefused, IsPngAnswered, IsPngRefused, IsProbeAnswered, IsProbeRefused, IsStripeAnswered, IsStripeRefused, IsTextCall};
+ghost use Rattle.stlslice_c.specs.Calls.{IsAreaAnswered, IsAreaRefused, IsAreasAnswered, IsAreasRefused, IsBoxAnswered, IsBoxRefused, IsCloseAnswered};
+ghost use Rattle.stlslice_c.specs.Calls.{IsCloseRefused, IsLoopsAnswered, IsLoopsRefused, IsMaskAnswered, IsMaskRefused};
+ghost use Rattle.stlslice_c.specs.Calls.{IsOpenAnswered, IsOpenMeshAnswered, IsOpenMeshRefused, IsOpenRefused};
+ghost use Rattle.stlslice_c.specs.Calls.{IsPngAnswered, IsPngRefused, IsProbeAnswered, IsProbeRefused, IsStripeAnswered};
+ghost use Rattle.stlslice_c.specs.Calls.{IsStripeRefused, IsTextCall};
 ghost use Rattle.stlslice_c.specs.declared.status.TheConstants.{OUT_OF_RANGE};
 
 use crate::handle::Handle;
@@ -86,8 +90,10 @@ pub(crate) fn open_mesh(
     line: &mut [u8],
     line_room: usize,
 ) -> Status
-    ensures refused { IsOpenMeshRefused points.now point_count triangles.now triangle_count options.now mesh.old mesh.new shape.old shape.new line.old line.new line_room result }
-    ensures answered { IsOpenMeshAnswered points.now point_count triangles.now triangle_count options.now mesh.old mesh.new shape.old shape.new line.old line.new line_room result }
+    ensures refused { IsOpenMeshRefused points.now point_count triangles.now triangle_count options.now mesh.old mesh.new
+        shape.old shape.new line.old line.new line_room result }
+    ensures answered { IsOpenMeshAnswered points.now point_count triangles.now triangle_count options.now mesh.old mesh.new
+        shape.old shape.new line.old line.new line_room result }
 {
     let no_arrays = points.len() != point_count || triangles.len() != triangle_count;
     let no_buffer = no_arrays || line.len() != line_room;
@@ -237,8 +243,10 @@ pub(crate) fn loops(
     ends_room: usize,
     loops_count: &mut [usize],
 ) -> Status
-    ensures refused { IsLoopsRefused mesh.old mesh.new k points.old points.new points_room points_count.old points_count.new ends.old ends.new ends_room loops_count.old loops_count.new result }
-    ensures answered { IsLoopsAnswered mesh.old mesh.new k points.old points.new points_room points_count.old points_count.new ends.old ends.new ends_room loops_count.old loops_count.new result }
+    ensures refused { IsLoopsRefused mesh.old mesh.new k points.old points.new points_room points_count.old points_count.new
+        ends.old ends.new ends_room loops_count.old loops_count.new result }
+    ensures answered { IsLoopsAnswered mesh.old mesh.new k points.old points.new points_room points_count.old points_count.new
+        ends.old ends.new ends_room loops_count.old loops_count.new result }
 {
     let no_buffer = points.len() != points_room || ends.len() != ends_room;
     if no_buffer || mesh.len() == 0 || points_count.len() == 0 || loops_count.len() == 0 {

@@ -1,5 +1,5 @@
 //! The slicer for C: sessions of `layer_session` behind a handle that C keeps. `include/stlslice.h` declares the calls, and
-//! [`exports`] has them as C makes them: with pointers that may be null. This file has them on references.
+//! `exports.rt` has them as C makes them: with pointers that may be null. This file has them on references.
 //!
 //! ```c
 //! stlslice_options options = {.pitch = 50, .layer = 50};                 // micrometres
@@ -35,7 +35,7 @@
 mod answers;
 mod box_parts;
 mod buffers;
-pub mod exports;
+mod exports;
 mod given;
 mod handle;
 mod lines;
@@ -55,6 +55,11 @@ ghost use Rattle.stlslice_c.specs.Status.{status_text};
 ghost use Rattle.stlslice_c.specs.declared.status.TheConstants.{NOT_OPEN};
 
 use answers::{put_area, put_areas, put_mask, put_png, put_probe, put_stripe};
+pub use exports::{
+    stlslice_area, stlslice_areas, stlslice_box, stlslice_close, stlslice_fault_text, stlslice_loops,
+    stlslice_mask, stlslice_open, stlslice_open_mesh, stlslice_png, stlslice_probe,
+    stlslice_stripe,
+};
 pub use handle::Handle;
 use lines::{put_fault, put_status};
 pub use loops::LoopPoint;
