@@ -56,8 +56,8 @@ ghost use Rattle.stlslice_c.specs.declared.status.TheConstants.{NOT_OPEN};
 
 use answers::{put_area, put_areas, put_mask, put_png, put_probe, put_stripe};
 pub use exports::{
-    stlslice_area, stlslice_areas, stlslice_box, stlslice_close, stlslice_fault_text, stlslice_loops,
-    stlslice_mask, stlslice_open, stlslice_open_mesh, stlslice_png, stlslice_probe,
+    stlslice_area, stlslice_areas, stlslice_box, stlslice_close, stlslice_fault_text,
+    stlslice_loops, stlslice_mask, stlslice_open, stlslice_open_mesh, stlslice_png, stlslice_probe,
     stlslice_stripe,
 };
 pub use handle::Handle;
