@@ -1,13 +1,16 @@
-"""Each call, clause and definition that docs/PROVED.md, README and docs/embedding.md name is one of the sources, and the
-clauses that they name for a law or a call are clauses of it. A clause that they name in brackets is given for a call. What a
-wrong body of tests/known_bad.py changes stands once, so it can be planted, and the test that has to fail is there."""
+"""What documents say of the sources. Each call, clause and definition that docs/PROVED.md, README and docs/embedding.md name is
+one of the sources, and the clauses that they name for a law or a call are clauses of it. A clause that they name in brackets
+is given for a call. What a wrong body of tests/known_bad.py changes stands once, so it can be planted, and the test that has to
+fail is there. The answer that docs/proving.md shows is the one in the source, and the goal's function, lemma and clause are
+there. If Vim or Emacs is there, what the page puts into its settings types the signs. Each place that a document links to, or
+names in examples/ or docs/, is there, and so is each heading that a link leads to; the indices name each document."""
 
 import glob
 import os
 import re
 
 import known_bad
-from common import ROOT, Case, same, text_of, without_blocks
+from common import ROOT, Case, needs, same, text_of, without_blocks
 
 # what stands in code without being a name of the sources: words of the command, crates of the toolchain, a parameter
 OTHERS = {"main", "make", "evenodd", "nonzero", "positive", "memchr", "smallvec", "thiserror", "clap", "atomic_table",
@@ -129,3 +132,107 @@ class KnownBad(Case):
             same((count, planted == text), (1, False), f"{name}: how often its text is in {path}; is it the same then")
             crate, module, test = re.split(" |::", fails)
             assert f"#[test]\nfn {test}(" in text_of(f"crates/{crate}/src/{module}.rt"), f"{name}: there is no {fails}"
+
+
+PAGE = text_of("docs/proving.md")
+ANSWERS = "crates/exact_int/proofs/division/ceil_div/Answers.antt"
+
+
+def block_of(start):
+    return re.search(rf"(?ms)^```text\n({re.escape(start)}.*?)^```$", PAGE)[1]
+
+
+class Proving(Case):
+    def test_the_answer_is_that_of_the_source(self):
+        """The page may leave out the middle of a line as `..`."""
+        block = re.search(r"(?ms)^ *```text\n( *returns-then-n-d-gt0 c =\n.*?)^ *```$", PAGE)[1]
+        shown = [line.strip() for line in block.splitlines()]
+        assert len(shown) > 5, f"the answer shown is {shown}"
+        found = [line.strip() for line in text_of(ANSWERS).split("\nreturns-then-n-d-gt0 c =\n")[1].splitlines()]
+        for line, wanted in zip(shown[1:], found):
+            front, _, back = line.partition("(..)")
+            is_there = wanted == line or (back and wanted.startswith(front) and wanted.endswith(back))
+            assert is_there, f"the source has {wanted!r}, not {line!r}"
+        same(found[len(shown) - 1], "", "lines behind those shown")
+
+    def test_names_and_signs_are_right(self):
+        assert "ensures { IsCeilDiv result n d }" in text_of("crates/exact_int/src/division.rt"), "the clause isn't there"
+        for name, place in (("ceiling-up", "crates/exact_int/proofs/lemmas/Ceilings.antt"),
+                            ("IsCeilDiv", "crates/exact_int/specs/Division.antt"),
+                            ("identity", "crates/exact_int/proofs/lemmas/Identity.antt")):
+            assert f"`{name}`" in PAGE, f"the page doesn't name {name}"
+            assert re.search(rf"(?m)^(abbrev )?pub {name} :", text_of(place)), f"{name} isn't in {place}"
+        rows = re.findall(r"(?m)^\| (`[^|]*`) \|[^|]*\| ([\w, ]{4,}) \|$", PAGE)
+        assert len(rows) > 6, f"the signs that are listed: {rows}"
+        for signs, points in rows:
+            same(", ".join(f"{ord(it):04X}" for it in re.findall("`(.)`", signs)), points, f"code points of {signs}")
+
+    @needs("vim")
+    def test_vim_types_the_signs(self):
+        settings = self.room.put("vimrc", "set encoding=utf-8\n" + block_of("inoremap"))
+        typed = r'call feedkeys("i\\== \\-> \\:: .\<Esc>", "tx")'
+        self.room.run("vim", "-N", "-u", settings, "-es", self.room.file("typed"), "-c", typed, "-c", "wq")
+        same(self.room.get("typed").decode(), "≡ → ∷ .\n", "what Vim types")
+
+    @needs("emacs")
+    def test_emacs_types_the_signs(self):
+        settings = self.room.put("init.el", block_of("(define-key"))
+        keys = " ".join(f'(key-description (lookup-key key-translation-map (kbd "C-c {key}")))' for key in "=>:")
+        ran = self.room.run("emacs", "-Q", "--batch", "-l", settings, "--eval", f"(princ (concat {keys}))")
+        same((ran.status, ran.out), (0, "≡→∷"), "what Emacs types")
+
+
+FOLDERS = ("", "docs/", "docs/decisions/")
+FOUND = sorted(os.path.relpath(it, ROOT) for folder in FOLDERS for it in glob.glob(f"{ROOT}/{folder}*.md"))
+
+
+def links(document):
+    return re.findall(r"\]\(([^)#:\s]*)(#[^)]*)?\)", without_blocks(text_of(document)))
+
+
+def target(document, place):
+    return os.path.normpath(os.path.join(os.path.dirname(document), place)) if place else document
+
+
+def anchors(document):
+    """The headings of a document, as a link names them."""
+    heads = re.findall(r"(?m)^#+ (.*)$", without_blocks(text_of(document)))
+    return {re.sub(r"[^\w -]", "", head.lower()).replace(" ", "-") for head in heads}
+
+
+def linked(document):
+    return {target(document, place) for place, _ in links(document) if place}
+
+
+class Links(Case):
+    def test_places_that_are_linked_or_named_are_there(self):
+        assert "README.md" in FOUND and len(FOUND) > 4, FOUND
+        for document in FOUND:
+            text = without_blocks(text_of(document))
+            named = re.findall(r"`((?:examples|commands|docs|tools|tests|bench|completions|man)/[\w.-]+\.\w+)`", text)
+            for place in sorted(linked(document) | set(named)):
+                assert os.path.exists(os.path.join(ROOT, place)), f"{document}: {place} isn't there"
+
+    def test_headings_that_are_linked_are_there(self):
+        for document in FOUND:
+            for place, anchor in links(document):
+                if anchor:
+                    assert anchor[1:] in anchors(target(document, place)), f"{document}: {place} has no {anchor}"
+
+    def test_files_that_the_architecture_names_by_crate_are_there(self):
+        crates, count = os.listdir(os.path.join(ROOT, "crates")), 0
+        for named in re.findall(r"`(\w+/[\w./{},]+)`", without_blocks(text_of("docs/ARCHITECTURE.md"))):
+            crate, _, rest = named.partition("/")
+            inside = re.search(r"\{(.*?)\}", rest)
+            for choice in inside[1].split(",") if inside and crate in crates else [""] * (crate in crates):
+                count += 1
+                place = os.path.join("crates", crate, re.sub(r"\{.*?\}", choice, rest))
+                assert os.path.exists(os.path.join(ROOT, place)), f"docs/ARCHITECTURE.md: {place} isn't there"
+        assert count > 50, f"only {count} files are named"
+
+    def test_each_document_is_in_its_index(self):
+        for document in FOUND:
+            if document.startswith("docs/decisions/"):
+                assert document in linked("docs/DECISIONS.md"), f"the index of decisions doesn't lead to {document}"
+            elif document.startswith("docs/") and document != "docs/README.md":
+                assert document in linked("docs/README.md"), f"the index doesn't lead to {document}"
