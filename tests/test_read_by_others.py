@@ -10,9 +10,9 @@ import re
 import shutil
 import sys
 
-import beside_prusaslicer
 from common import PROGRAM, Case, example, installed, needs, same, text_of
 from parts import box, centred, mirrored, pixels_of_png, read_by_netpbm, text, zipped
+import beside_prusaslicer
 
 LATTICE = text([it for x in range(40) for it in box((x, 0, 0), (x + 0.5, 9 - 0.1 * x, 4))])
 BRACKET, GEAR, SUPPORTED = (text_of(example(f"{it}.stl")) for it in ("bracket", "helical_gear", "supported"))
