@@ -63,9 +63,9 @@ BELIEVED = [
              "wrong or something is missing, the fault is the first in the documented order. If the words ask for help or the "
              "version, that is told as a refusal."),
     Believed("believe-mask", "ask_mask", "stlslice_c", ["ask_mask"], [], "",
-             "This is the image of one layer, as a caller in C gets it. The handle has an opened mesh, or none. With a mesh, the "
-             "image of layer k is put into the buffer, if that is large enough. Else only the size that it needs is put. Any "
-             "other status leaves all of the caller's as it was."),
+             "This is the image of one layer, behind the pointers of C, which `IsMaskCall` adds. The handle has an opened mesh, or "
+             "none. With a mesh, the image of layer k is put into the buffer, if that is large enough. Else only the size that it "
+             "needs is put. Any other status leaves all of the caller's as it was."),
 ]
 
 

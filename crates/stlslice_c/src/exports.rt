@@ -1,9 +1,11 @@
 //! The calls as C makes them: what each requires of the pointers that C gives, and what it leaves there.
 //!
-//! A contract says that C lends the values at a pointer for the call (`lent`): as many as C tells, or one. None is lent at a null
-//! pointer, nor for a number that no object has; then the status is 1, and what is lent is as it was. What a call only reads
-//! may be lent to other calls at the same time (`lent_shared`). No pointer is more than 2^63 - 1 bytes into its object (`Testable`).
-//! What is asked of the lent values, and answered, is in `specs/Calls.antt`.
+//! A contract says that C lends the values at a pointer for the call (`lent`): as many as C tells, or one. They lie aligned as
+//! their type, and a byte that C has not written counts as some value. None is lent at a null pointer, nor for a number that no
+//! object has. If fewer are lent than C tells, or none where one is needed, a call changes nothing but a line of text, and its
+//! status, if it has one, is 1. Other statuses are those of the functions of `lib.rt`. What a call only reads may be lent to
+//! other calls at the same time (`lent_shared`). No pointer is more than 2^63 - 1 bytes into its object (`Testable`). What is
+//! asked of the lent values, and answered, is in `specs/Calls.antt`.
 ghost use Rattle.std.specs.Prelude.{◌≡◌, ℕ, ℤ, List};
 ghost use Rattle.std.specs.Borrow.{sem, u8, u64, usize};
 ghost use base.Fml.{Share};

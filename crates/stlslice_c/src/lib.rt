@@ -17,7 +17,7 @@
 //!
 //! A call returns a status (`status.rt`):
 //! - 0: done
-//! - 1: a number is out of its range or outside the grid, or arrays are no facets
+//! - 1: a number is out of its range or outside the grid, arrays are no facets, a pointer is null, or no object has the size
 //! - 3: the file is no STL that can be read
 //! - 4: the mesh has an open edge
 //! - 5: there is no such grid

@@ -10,7 +10,8 @@ pub(crate) type Status = u32;
 /// Done.
 pub(crate) const DONE: Status = 0;
 
-/// An argument is out of its range, arrays among them, or there is no such layer, stripe or voxel.
+/// An argument is out of its range, arrays among them; there is no such layer, stripe or voxel; a pointer is null, or a size is
+/// one that no object has.
 pub(crate) const OUT_OF_RANGE: Status = 1;
 
 /// The file is no STL that can be read.
