@@ -401,14 +401,24 @@ fn faults_of_a_text_and_of_a_grid(rt: HostRuntime) {
     }
 }
 
+/// How many areas so many layers have, from layer `first` on.
+fn area_count<A: Allocator + Copy + Send + Sync>(
+    session: &Session<A>,
+    first: u32,
+    count: u32,
+) -> Result<usize, SessionFault> {
+    Ok(session.areas(first, count)?.len())
+}
+
 /// Whether the areas of so many layers, from layer `first` on, are those of each alone.
 fn are_areas_of_each(session: &Session<Global>, first: u32, count: u32) -> bool {
     match session.areas(first, count) {
         Ok(areas) => {
             let mut are_alike = areas.len() == count as usize;
-            for (place, area) in areas.iter().enumerate() {
-                let k = first.saturating_add(place as u32);
+            let mut k = first;
+            for area in &areas {
                 are_alike = are_alike && session.area(k) == Ok(*area);
+                k = k.saturating_add(1);
             }
             are_alike
         }
@@ -450,10 +460,7 @@ fn is_outside(session: &Session<Global>, k: u32) -> bool {
 
 /// Whether so many layers of the column's session, from layer `first` on, are not all in its grid.
 fn are_outside(session: &Session<Global>, first: u32, count: u32) -> bool {
-    match session.areas(first, count) {
-        Ok(_) => false,
-        Err(fault) => fault == OUTSIDE,
-    }
+    area_count(session, first, count) == Err(OUTSIDE)
 }
 
 /// Whether a stripe of the column's session is outside.
@@ -504,7 +511,7 @@ fn answers_of<A: Allocator + Copy + Send + Sync>(
         png_len(session, 3)?,
         stripe_len(session, 0)?,
         session.area(3)?,
-        session.areas(3, 2)?.len(),
+        area_count(session, 3, 2)?,
         loop_count(session, 3)?,
     ))
 }
