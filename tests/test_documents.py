@@ -1,9 +1,7 @@
-"""What documents say of the sources. Each call, clause and definition that docs/PROVED.md, README and docs/embedding.md name is
-one of the sources, and the clauses that they name for a law or a call are clauses of it. A clause that they name in brackets
-is given for a call. What a wrong body of tests/known_bad.py changes stands once, so it can be planted, and the test that has to
-fail is there. The answer that docs/proving.md shows is the one in the source, and the goal's function, lemma and clause are
-there. If Vim or Emacs is there, what the page puts into its settings types the signs. Each place that a document links to, or
-names in examples/ or docs/, is there, and so is each heading that a link leads to; the indices name each document."""
+"""What documents say of the sources. The calls, clauses and definitions that docs/PROVED.md, README and docs/embedding.md name are
+there, and a clause told of a law or a call is one of it. What a wrong body of tests/known_bad.py changes stands once, and the
+test that has to fail is there. docs/proving.md shows the source's answer; Vim and Emacs type the signs by its settings. Each
+place and heading that a document links to is there, and the indices name each document."""
 
 import glob
 import os

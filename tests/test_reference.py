@@ -20,16 +20,15 @@ LED_TO = (("stlslice", "stlslice.specs.html#Run.IsRun"), ("stlslice", "stlslice.
 BELIEVED = (
     ("believe-slice.html", "stlslice.run",
      ["stlslice.Run.IsRun", "stlslice.Outcome.IsOutcome", "mesh_weld.Balance.IsBalanced", "geometry.Winding.ray",
-      "geometry.TieRule.is_below", "raster.Rule.is_inside", "raster.Image.images", "devices.Source", "devices.Sink",
-      "stlslice.RunFault.run_fault_text", "mesh_weld.WeldFault.open_edge_text"]),
+      "geometry.TieRule.is_below", "raster.Rule.is_inside", "raster.Image.images", "devices.Source", "devices.Sink"]),
+    ("believe-lines.html", "stlslice.RunFault.run_fault_text", ["mesh_weld.WeldFault.open_edge_text"]),
     ("believe-text.html", "stl_text.Text.Reads", ["stl_text.Text.IsFaultOf", "micro_num.Micrometres.micro"]),
     ("believe-png.html", "stlslice.SlicedText.pngs", ["layer_png.Text.layer_png"]),
     ("believe-reader.html", "layer_png.Png.IsPng",
      ["layer_png.Png.png_of", "layer_png.Stream.cut_pngs", "deflate.Zlib.unzipped", "deflate.Huffman.is_complete"]),
     ("believe-box.html", "stlslice.Outcome.box_text", ["stlslice.Outcome.probe_result", "contour.Loops.loops", "geometry.Winding.ray_y"]),
-    ("believe-words.html", "task_words.read_words",
-     ["task_words.Words.StandFor", "task_words.Words.options", "task_words.Options.said", "task_words.wants_progress",
-      "task_words.WordFault.word_fault_text"]),
+    ("believe-words.html", "task_words.read_words", ["task_words.Words.StandFor", "task_words.Words.options", "task_words.Options.said",
+                                                     "task_words.wants_progress", "task_words.WordFault.word_fault_text"]),
     ("believe-mask.html", "stlslice_c.ask_mask",
      ["stlslice_c.Answers.IsMaskAnswer", "raster.Image.layer_image", "geometry.Winding.ray", "raster.Rule.is_inside"]))
 

@@ -31,13 +31,16 @@ NEW_LINE = re.compile(r"^\s*(pub |fn |///|#\[|where$|\}|\)|$)")
 # it leaves to other pages, the page that a reader has read before, and what it says in plain words.
 Believed = collections.namedtuple("Believed", "page title crate roots without after said")
 BELIEVED = [
-    Believed("believe-slice", "a slice as P4", "stlslice", ["run", "RunFault.run_fault_text"],
-             ["Reads", "IsFaultOf", "pngs", "report_text", "box_text", "probe_result"], "",
+    Believed("believe-slice", "a slice as P4", "stlslice", ["run"], ["Reads", "IsFaultOf", "pngs", "report_text", "box_text", "probe_result"], "",
              "A run reads facets, checks that they are closed, places a grid and writes one image a layer. The centre of a pixel "
              "lies half a pitch, and half a layer height, from its cell's least corner. The ray from it along x crosses facets, "
              "each with the sign of its winding. The pixel is 1 exactly if the rule calls the sum inside. If something is wrong, "
              "the run ends with one fault and has written nothing, unless writing failed. [`written_pixels`] says the same by "
              "facets, loops and pixels (`IsSlicedFrom`)."),
+    Believed("believe-lines", "the lines of faults", "stlslice", ["RunFault.run_fault_text"], [], "believe-slice",
+             "Each fault of a run has one line. That of a text says what is wrong there, and at which byte. An open edge is told by "
+             "its ends, and by how often facets run along it each way. A fault of the grid says why there is none. A write that "
+             "failed is told with the bytes that had gone out."),
     Believed("believe-text", "how a text reads as facets", "stl_text", ["Text.Reads", "Text.IsFaultOf"], [], "",
              "A text is ASCII STL if it is some solids, each a name and facets of three corners. Words stand between white "
              "space, and keywords are read in any case. A number is a decimal, whose exact value is rounded once to a whole "
