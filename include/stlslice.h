@@ -19,9 +19,10 @@
  * a call with a null buffer of size 0 asks for the size, which is quick by stlslice_mask and stlslice_stripe. At any
  * other status buffer and size are as they were.
  *
- * Pointers. A file, an array or a buffer may be null if its size is 0. If any other pointer is null, the status is
- * STLSLICE_OUT_OF_RANGE; a call without a status then does nothing. A pointer that is not null has to be valid for its
- * type. The places that one call writes to overlap neither each other nor what it reads.
+ * Pointers. A file, an array or a buffer may be null if its size is 0. If any other pointer is null, or a size is more
+ * than PTRDIFF_MAX bytes, the status is STLSLICE_OUT_OF_RANGE; a call without a status then does nothing. A pointer that
+ * is not null has to be valid for its type. The places that one call writes to overlap neither each other nor what it
+ * reads.
  *
  * Threads. A mesh may go from thread to thread, and is used by one call at a time. Different meshes are independent of
  * each other.
@@ -40,7 +41,7 @@ extern "C" {
 /* Statuses. 3 to 6 are the program's. */
 typedef uint32_t stlslice_status;
 #define STLSLICE_DONE 0u
-#define STLSLICE_OUT_OF_RANGE 1u /* a number, triangle, layer, stripe or voxel is out of its range; a pointer is null */
+#define STLSLICE_OUT_OF_RANGE 1u /* what is asked is out of range, a pointer is null, or a size is one of no object */
 #define STLSLICE_TEXT 3u         /* the file is no STL that can be read */
 #define STLSLICE_OPEN_MESH 4u    /* the mesh has an open edge */
 #define STLSLICE_GRID 5u         /* there is no such grid */

@@ -4,8 +4,8 @@
     reference.py FOLDER
 
 FOLDER gets a page for each crate, with its front page and its public items, their comments and contracts. A second page has
-the crate's definitions, if there are any. More pages list all that somebody has to believe who believes a promise: that of
-`run`, in parts by what a reader came for, and that of `stlslice_mask`. Each name in a contract leads to its definition. All of
+the crate's definitions, if there are any. More pages list all that somebody has to believe who believes a promise: those of
+`run` and `read_words`, in parts by what a reader came for, and that of `ask_mask`. Each name in a contract leads to its definition. All of
 it comes from the sources, so it is never older. Examples are statements that are proved in `proofs/examples`.
 """
 
@@ -38,9 +38,9 @@ BELIEVED = [
              "the run ends with one fault and has written nothing, unless writing failed. [`written_pixels`] says the same by "
              "facets, loops and pixels (`IsSlicedFrom`)."),
     Believed("believe-lines", "the lines of faults", "stlslice", ["RunFault.run_fault_text"], [], "believe-slice",
-             "Each fault of a run has one line. That of a text says what is wrong there, and at which byte. An open edge is told by "
-             "its ends, and by how often facets run along it each way. A fault of the grid says why there is none. A write that "
-             "failed is told with the bytes that had gone out."),
+             "Each fault of a run has one line. That of a text says what is wrong, and at which byte, unless the text ended too soon. "
+             "An open edge is told by its ends, and by how often facets run along it each way. A fault of the grid says why there "
+             "is none. A write that failed is told with how many bytes had gone out."),
     Believed("believe-text", "how a text reads as facets", "stl_text", ["Text.Reads", "Text.IsFaultOf"], [], "",
              "A text is ASCII STL if it is some solids, each a name and facets of three corners. Words stand between white "
              "space, and keywords are read in any case. A number is a decimal, whose exact value is rounded once to a whole "
