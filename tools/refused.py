@@ -9,7 +9,7 @@ import fileinput
 import re
 import sys
 
-TOLD = re.compile(r"rt: must-fail (\w+)/(\S+)\.edit: (refused)?[^:]*:? ?(.*)")
+TOLD = re.compile(r"rt: must-fail (\w+)/(\S+)\.edit: (refused)?[^:\n]*:? ?(.*)")
 ANSWER = re.compile(r"\./proofs/(\S+)/Answers\.antt:\d+:\d+: error: `([^`]+)`")
 CODE = re.compile(r"note: (src/\S+):(\d+):\d+: (?:it is not proved that|`search` found no proof) (.*)")
 # `rt` cuts what it quotes: where the goal's name is gone, the sentence says what it is

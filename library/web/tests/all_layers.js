@@ -1,4 +1,4 @@
-// All layers of the mesh that the worker has opened: images and loops' points in base64, areas by both ways, and the loops' ends.
+// All layers of the mesh that the worker has opened: images and loops' points in base64, areas by both calls, and the loops' ends.
 (() => {
     const base64 = (data) => {
         let words = "";
@@ -14,6 +14,6 @@
         points.push(new Uint8Array(loops.points.buffer));
         ends.push([...loops.ends]);
     }
-    const stripes = Array.from({ length: Math.ceil(shape.layers / STRIPE) }, (_, it) => areas_of_stripe(places.mesh, it)).flat();
-    return { images: base64(joined(images)), points: base64(joined(points)), areas, stripes, ends };
+    const together = areas_from(places.mesh, 0, Infinity);
+    return { images: base64(joined(images)), points: base64(joined(points)), areas, together, ends };
 })()

@@ -28,7 +28,7 @@ def compare_layers(page, case, stlslice):
     told, name = page.in_worker(script("all_layers")), f"{case.path} {case.words}"
     same(base64.b64decode(told["images"]), case.stream, f"images of {name}")
     same(told["areas"], case.numbers(5), f"areas of {name}")
-    same(told["stripes"], case.numbers(5), f"areas by stripes of {name}")
+    same(told["together"], case.numbers(5), f"areas in one call of {name}")
     same([len(it) for it in told["ends"]], case.numbers(3), f"loops of {name}")
     points = base64.b64decode(told["points"])
     points = list(struct.unpack(f"<{len(points) // 8}d", points))
