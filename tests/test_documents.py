@@ -1,7 +1,6 @@
 """What documents say of the sources. Calls, clauses and definitions that docs/PROVED.md, README and docs/embedding.md name are
-there, and a clause told of a law or a call is one of it. What a wrong body of tests/known_bad.py changes stands once, and the
-test that has to fail is there. docs/proving.md shows the source's answer; Vim and Emacs type the signs by its settings. Each
-place and heading that a document links to is there, and the indices name each document."""
+there, and a clause told of a law or a call is one of it. Wrong bodies of tests/known_bad.py can be planted. docs/proving.md shows
+the source's answer; Vim and Emacs type the signs by its settings. Links lead to places and headings; indices are whole."""
 
 import glob
 import os

@@ -192,8 +192,9 @@ class Windows(Tried, Together):
     @classmethod
     def make_ready(cls, room):
         super().make_ready(room)
-        # Wine's folder lies in the room's home, and is made once
+        # Wine's folder lies in the room's home, and is made once. Its server stays: one that ends could do so as a program begins.
         room.environment.update(WINEDEBUG="-all", WINEDLLOVERRIDES="mscoree,mshtml,winemenubuilder.exe=")
+        room.run("wineserver", "--persistent")
         cls.addClassCleanup(room.run, "wineserver", "--kill")
         same(room.run("wine", "cmd", "/c", "exit 3").status, 3, "status of a program under Wine")
 
