@@ -192,7 +192,7 @@ class Windows(Tried, Together):
     @classmethod
     def make_ready(cls, room):
         super().make_ready(room)
-        # Wine's folder lies in the room's home, and is made once. Its server stays: one that ends could do so as a program begins.
+        # Wine's folder lies in the room's home, and is made once. Its server stays, so that none ends as a program begins.
         room.environment.update(WINEDEBUG="-all", WINEDLLOVERRIDES="mscoree,mshtml,winemenubuilder.exe=")
         room.run("wineserver", "--persistent")
         cls.addClassCleanup(room.run, "wineserver", "--kill")
