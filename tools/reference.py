@@ -34,8 +34,8 @@ BELIEVED = [
     Believed("believe-slice", "a slice as P4", "stlslice", ["run"], ["Reads", "IsFaultOf", "pngs", "report_text", "box_text", "probe_result"], "",
              "A run reads facets, checks that they are closed, places a grid and writes one image a layer. The centre of a pixel "
              "lies half a pitch, and half a layer height, from its cell's least corner. The ray from it along x crosses facets, "
-             "each with the sign of its winding. The pixel is 1 exactly if the rule calls the sum inside. If something is wrong, "
-             "the run ends with one fault and has written nothing, unless writing failed. [`written_pixels`] says the same by "
+             "each with the sign of its winding, and the pixel is 1 exactly if the rule calls the sum inside. If something is "
+             "wrong, the run ends with one fault and has written nothing, unless writing failed. [`written_pixels`] says the same by "
              "facets, loops and pixels (`IsSlicedFrom`)."),
     Believed("believe-lines", "the lines of faults", "stlslice", ["RunFault.run_fault_text"], [], "believe-slice",
              "Each fault of a run has one line. That of a text says what is wrong, and at which byte, unless the text ended too soon. "
@@ -48,7 +48,7 @@ BELIEVED = [
              "exactly one fault, at the first word that can't be there."),
     Believed("believe-png", "PNG", "stlslice", ["SlicedText.pngs"], ["IsPng"], "believe-slice",
              "A layer as PNG is the signature and three chunks, each with its length and its check sum. Its rows are packed with "
-             "the leftmost pixel in the highest bit, and none is filtered. They are compressed as one block of runs. A reader, "
+             "the leftmost pixel in the highest bit. None of them is filtered. They are compressed as one block of runs. A reader, "
              "defined from ISO 15948 and RFC 1950 and 1951, finds exactly the layer's pixels there ([`written_pixels`])."),
     Believed("believe-reader", "a reader of PNG", "layer_png", ["Png.IsPng", "Stream.cut_pngs"], [], "",
              "A PNG is the signature and the chunks IHDR, IDAT and IEND, each with length and CRC. The data of IDAT are one zlib "
