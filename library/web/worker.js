@@ -2,7 +2,7 @@
 // a call and a number, and the reply has the same number. Calls run one after the other.
 
 const DONE = 0, MEMORY = 6, NO_ROOM = 7, LINE = 256;
-const STRIPE = 32; // layers whose areas are asked for at once
+const AREAS_AT_ONCE = 32; // layers
 
 let library = null; // what the module exports
 let stopped = null; // why no call may be made any more
@@ -189,7 +189,7 @@ function area_of(k) {
 function areas_from(mesh, from, milliseconds) {
     const end = performance.now() + milliseconds, found = [];
     while (from + found.length < shape.layers && (!found.length || performance.now() < end)) {
-        const next = from + found.length, count = Math.min(STRIPE, shape.layers - next), room = buffer("areas", 8 * STRIPE);
+        const next = from + found.length, count = Math.min(AREAS_AT_ONCE, shape.layers - next), room = buffer("areas", 8 * AREAS_AT_ONCE);
         must(ask("stlslice_areas", big(mesh), next, big(room.at), big(count)));
         for (let k = 0; k < count; k++) found.push(size_at(room.at + 8 * k));
     }
