@@ -11,7 +11,6 @@
 use Rattle.std.specs.Prelude.{◌≡◌, ◌≢◌, ◌+◌, ◌*◌, ◌<◌, ◌≤◌, ◌^◌, ◌==◌, ◌&&◌, ◌||◌, ℕ, ℤ, Bool, true, not, nat_le, List, Result, Ok, Err, IsOk, length, slice_index, slice_index_or}
 use Rattle.geometry.specs.Facet.{Facet}
 use Rattle.geometry.specs.Point.{Point}
-use Rattle.geometry.specs.declared.limits.TheConstants.{FACET_LIMIT}
 use Rattle.micro_num.specs.declared.unit.Unit.{Unit as LengthUnit}
 use Rattle.binary_stl.specs.Single.{coordinate_of}
 use Rattle.binary_stl.specs.declared.binary_fault.Axis.{Axis}
@@ -80,10 +79,10 @@ pub record IsFacetAt (unit : LengthUnit) (bytes : List ℕ) (facet : ℕ) (f : F
 abbrev pub AreFirstFacets : LengthUnit → List ℕ → List Facet → Type 0
 AreFirstFacets unit bytes facets = (k : ℕ) (none : Facet) → k < length facets → IsFacetAt unit bytes k (slice_index_or facets k none)
 
--- The bytes are a binary STL of no more facets than are read, and these are its facets, in order.
-pub record ReadsBinary (unit : LengthUnit) (bytes : List ℕ) (facets : List Facet) : Type 0 where
+-- The bytes are a binary STL of at most `limit` facets, and these are its facets, in order.
+pub record ReadsBinary (limit : ℕ) (unit : LengthUnit) (bytes : List ℕ) (facets : List Facet) : Type 0 where
   pub form : IsBinary bytes
-  pub few : facet_count bytes ≤ FACET_LIMIT
+  pub few : facet_count bytes ≤ limit
   pub count : length facets ≡ facet_count bytes
   pub each : AreFirstFacets unit bytes facets
 
@@ -91,21 +90,21 @@ pub record ReadsBinary (unit : LengthUnit) (bytes : List ℕ) (facets : List Fac
 abbrev pub coordinates_before : ℕ → ℕ → ℕ → ℕ
 coordinates_before facet corner axis = 9 * facet + 3 * corner + axis
 
--- The bytes are a binary STL of no more facets than are read, which has this coordinate of this corner of this facet. Each
--- number before it stands for a coordinate.
-pub record Reaches (unit : LengthUnit) (bytes : List ℕ) (facet corner axis : ℕ) : Type 0 where
+-- The bytes are a binary STL of at most `limit` facets, which has this coordinate of this corner of this facet. Each number
+-- before it stands for a coordinate.
+pub record Reaches (limit : ℕ) (unit : LengthUnit) (bytes : List ℕ) (facet corner axis : ℕ) : Type 0 where
   pub form : IsBinary bytes
-  pub few : facet_count bytes ≤ FACET_LIMIT
+  pub few : facet_count bytes ≤ limit
   pub of_facet : facet < facet_count bytes
   pub of_corner : corner < 3
   pub before : (f c a : ℕ) → c < 3 → a < 3 → coordinates_before f c a < coordinates_before facet corner axis → IsOk (coordinate_at unit bytes f c a)
 
 -- the one fault of bytes that are no facets
-abbrev pub IsFaultOfBinary : LengthUnit → List ℕ → BinaryFault → Type 0
-IsFaultOfBinary unit bytes fault.Ended = length bytes < FACETS_START
-IsFaultOfBinary unit bytes (fault.Length facets wanted found) =
+abbrev pub IsFaultOfBinary : ℕ → LengthUnit → List ℕ → BinaryFault → Type 0
+IsFaultOfBinary limit unit bytes fault.Ended = length bytes < FACETS_START
+IsFaultOfBinary limit unit bytes (fault.Length facets wanted found) =
     (FACETS_START ≤ length bytes) × (facets ≡ facet_count bytes) × (wanted ≡ length_of facets) × (found ≡ length bytes) × (wanted ≢ found)
-IsFaultOfBinary unit bytes (fault.TooMany facets) = IsBinary bytes × (facets ≡ facet_count bytes) × (FACET_LIMIT < facets)
-IsFaultOfBinary unit bytes (fault.Number cause facet corner axis) =
-    Reaches unit bytes facet corner (axis_number axis) × (coordinate_at unit bytes facet corner (axis_number axis) ≡ Err cause)
-IsFaultOfBinary unit bytes fault.Memory = ⊥
+IsFaultOfBinary limit unit bytes (fault.TooMany facets) = IsBinary bytes × (facets ≡ facet_count bytes) × (limit < facets)
+IsFaultOfBinary limit unit bytes (fault.Number cause facet corner axis) =
+    Reaches limit unit bytes facet corner (axis_number axis) × (coordinate_at unit bytes facet corner (axis_number axis) ≡ Err cause)
+IsFaultOfBinary limit unit bytes fault.Memory = ⊥

@@ -6,14 +6,14 @@ use Rattle.binary_stl.specs.Binary.{IsFaultOfBinary, ReadsBinary, axis_number, c
 use Rattle.binary_stl.specs.declared.binary_fault.BinaryFault.{BinaryFault}
 use Rattle.binary_stl.specs.declared.binary_fault.BinaryFault.TheVariants as fault
 
--- what is returned for bytes: their facets, their one fault, or out of memory
-pub record IsAnswerTo {A : Type 0} (unit : LengthUnit) (bytes : List ℕ) (result : Result (Vec Facet A) BinaryFault) : Type 0 where
+-- what is returned for bytes of at most `limit` facets: their facets, their one fault, or out of memory
+pub record IsAnswerTo {A : Type 0} (limit : ℕ) (unit : LengthUnit) (bytes : List ℕ) (result : Result (Vec Facet A) BinaryFault) : Type 0 where
   -- only the facets of the bytes are returned
-  pub found : IfOk result (λ facets. ReadsBinary unit bytes facets.items)
+  pub found : IfOk result (λ facets. ReadsBinary limit unit bytes facets.items)
   -- if the bytes are facets, exactly these are returned, unless memory runs out
-  pub only : (facets : List Facet) → ReadsBinary unit bytes facets → MatchResult result (λ found. found.items ≡ facets) (λ cause. cause ≡ fault.Memory)
+  pub only : (facets : List Facet) → ReadsBinary limit unit bytes facets → MatchResult result (λ found. found.items ≡ facets) (λ cause. cause ≡ fault.Memory)
   -- a fault is that of the bytes, unless memory runs out
-  pub fault : IfErr result (λ cause. cause ≢ fault.Memory → IsFaultOfBinary unit bytes cause)
+  pub fault : IfErr result (λ cause. cause ≢ fault.Memory → IsFaultOfBinary limit unit bytes cause)
 
 -- the fault of a corner: its first number that stands for no coordinate
 abbrev pub IsCornerFault : LengthUnit → List ℕ → ℕ → ℕ → BinaryFault → Type 0

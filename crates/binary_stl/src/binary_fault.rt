@@ -61,7 +61,7 @@ pub enum BinaryFault {
         wanted: u64,
         found: usize,
     },
-    /// The count is above `FACET_LIMIT`.
+    /// The count is above the limit.
     TooMany {
         facets: u32,
     },

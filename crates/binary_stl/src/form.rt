@@ -1,17 +1,15 @@
 //! The form of a binary STL: its count of facets, and the length that this takes.
 ghost use Rattle.std.specs.Prelude.{◌≡◌, ◌<◌, ◌≤◌, ◌+◌, ◌↔◌, IfErr, IfOk, IsTrue, OnOk, length};
-ghost use Rattle.geometry.specs.declared.limits.TheConstants.{FACET_LIMIT};
 ghost use Rattle.micro_num.specs.declared.unit.Unit.{Unit as LengthUnit};
 ghost use Rattle.binary_stl.specs.Binary.{IsBinary, IsFaultOfBinary, facet_count, is_binary, length_of, number_from};
 ghost use Rattle.binary_stl.specs.declared.limits.TheConstants.{FACETS_START, NUMBER_LEN};
 
 use crate::binary_fault::BinaryFault;
 use crate::limits::{COUNT_START, FACET_LEN, FACETS_START};
-use geometry::FACET_LIMIT;
 
 /// Whether bytes have the length that their count of facets takes. If so, they are a binary STL; other bytes may be a text.
 ///
-/// No shorter text than one of 7 GB is a binary STL ([`no_text`](crate::no_text)), except one whose name imitates a count.
+/// No shorter text than one of 7 GB is a binary STL ([`no_text`](crate::no_text)), except one whose bytes 80 to 83 imitate a count.
 pub fn is_binary(bytes: &[u8]) -> bool
     ensures form { IsTrue result ↔ IsBinary bytes.now }
     ensures value { result ≡ is_binary bytes.now }
@@ -43,12 +41,12 @@ fn length_of(facets: u32) -> u64
     FACETS_START as u64 + FACET_LEN as u64 * u64::from(facets)
 }
 
-/// The count of facets of a binary STL, of which no more than [`FACET_LIMIT`] are read.
-pub(crate) fn checked_count(bytes: &[u8]) -> Result<usize, BinaryFault>
+/// The count of facets of a binary STL, of which at most `limit` are read.
+pub(crate) fn checked_count(bytes: &[u8], limit: u32) -> Result<usize, BinaryFault>
     ensures count { IfOk result (λ n. n ≡ facet_count bytes.now) }
-    ensures few { IfOk result (λ n. n ≤ FACET_LIMIT) }
+    ensures few { IfOk result (λ n. n ≤ limit) }
     ensures form { OnOk result (IsBinary bytes.now) }
-    ensures fault { IfErr result (λ f. (unit : LengthUnit) → IsFaultOfBinary unit bytes.now f) }
+    ensures fault { IfErr result (λ f. (unit : LengthUnit) → IsFaultOfBinary limit unit bytes.now f) }
 {
     let found = bytes.len();
     if found < FACETS_START {
@@ -63,7 +61,7 @@ pub(crate) fn checked_count(bytes: &[u8]) -> Result<usize, BinaryFault>
             found,
         });
     }
-    if facets > FACET_LIMIT {
+    if facets > limit {
         return Err(BinaryFault::TooMany { facets });
     }
     Ok(facets as usize)

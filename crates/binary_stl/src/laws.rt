@@ -10,16 +10,16 @@ ghost use Rattle.binary_stl.specs.Single.{coordinate_of, finite, single_of};
 ghost use Rattle.binary_stl.specs.declared.binary_fault.BinaryFault.{BinaryFault};
 ghost use Rattle.binary_stl.specs.declared.limits.TheConstants.{TEXT_LIMIT};
 
-/// Bytes have exactly one outcome: one list of facets, or one fault.
+/// Bytes have exactly one outcome for a limit and a unit: one list of facets, or one fault.
 pub fn one_outcome()
-    ensures reading { (unit : LengthUnit) (bytes : List ℕ) (facets others : List Facet)
-        → ReadsBinary unit bytes facets → ReadsBinary unit bytes others → facets ≡ others }
-    ensures fault { (unit : LengthUnit) (bytes : List ℕ) (fault other : BinaryFault)
-        → IsFaultOfBinary unit bytes fault → IsFaultOfBinary unit bytes other → fault ≡ other }
-    ensures not_both { (unit : LengthUnit) (bytes : List ℕ) (facets : List Facet) (fault : BinaryFault)
-        → ReadsBinary unit bytes facets → IsFaultOfBinary unit bytes fault → ⊥ }
-    ensures either { (unit : LengthUnit) (bytes : List ℕ)
-        → ((facets : List Facet) × ReadsBinary unit bytes facets) ⊎ ((fault : BinaryFault) × IsFaultOfBinary unit bytes fault) }
+    ensures reading { (limit : ℕ) (unit : LengthUnit) (bytes : List ℕ) (facets others : List Facet)
+        → ReadsBinary limit unit bytes facets → ReadsBinary limit unit bytes others → facets ≡ others }
+    ensures fault { (limit : ℕ) (unit : LengthUnit) (bytes : List ℕ) (fault other : BinaryFault)
+        → IsFaultOfBinary limit unit bytes fault → IsFaultOfBinary limit unit bytes other → fault ≡ other }
+    ensures not_both { (limit : ℕ) (unit : LengthUnit) (bytes : List ℕ) (facets : List Facet) (fault : BinaryFault)
+        → ReadsBinary limit unit bytes facets → IsFaultOfBinary limit unit bytes fault → ⊥ }
+    ensures either { (limit : ℕ) (unit : LengthUnit) (bytes : List ℕ)
+        → ((facets : List Facet) × ReadsBinary limit unit bytes facets) ⊎ ((fault : BinaryFault) × IsFaultOfBinary limit unit bytes fault) }
 {}
 
 /// Numbers of the same value have the same coordinate, so corners that are equal stay equal. -0 is 0.

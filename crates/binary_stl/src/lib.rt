@@ -1,11 +1,11 @@
 //! Triangle meshes read from binary STL.
 //!
-//! - [`read_binary`]: the facets of a binary STL, in order, or the one fault of its bytes.
-//! - [`is_binary`]: whether bytes have the length of a binary STL, which a text doesn't have.
+//! - [`read_binary`], [`read_binary_at_most`]: the facets of a binary STL, in order, or the one fault of its bytes.
+//! - [`is_binary`]: whether bytes have the length of a binary STL, which few texts have.
 //! - [`BinaryFault`]: why bytes are no facets, with facet, corner and [`Axis`]; [`CoordinateFault`]: why a number stands for no
 //!   coordinate.
 //! - [`one_outcome`], [`equal_numbers`], [`same_as_text`], [`no_text`]: laws. Bytes have one outcome; equal numbers are equal
-//!   coordinates, also in a text; a text is no binary STL.
+//!   coordinates, also in a text; a text is no binary STL, unless its bytes 80 to 83 imitate a count.
 //! - [`FACETS_START`], [`FACET_LEN`], [`CORNER_LEN`], [`NUMBER_LEN`], [`COUNT_START`]: the layout of a binary STL;
 //!   [`TEXT_LIMIT`]: how long a text may be for [`no_text`].
 //! - [`Point`], [`Facet`], [`FACET_LIMIT`] and [`COORDINATE_LIMIT`], re-exported from `geometry`; [`Unit`], re-exported from
@@ -17,8 +17,8 @@
 //! assert!(rt; fault == Err(BinaryFault::Ended));
 //! ```
 //!
-//! Units: the numbers of a binary STL are in millimetres or inches, as the caller says. Points are in whole micrometres. Facets
-//! and corners count from 0.
+//! Units: the numbers of a binary STL are in the unit that the caller names. Points are in whole micrometres. Facets and corners
+//! count from 0.
 #![tactic(auto)]
 
 mod binary_fault;
@@ -34,4 +34,4 @@ pub use geometry::{COORDINATE_LIMIT, FACET_LIMIT, Facet, Point};
 pub use laws::{equal_numbers, no_text, one_outcome, same_as_text};
 pub use limits::{CORNER_LEN, COUNT_START, FACET_LEN, FACETS_START, NUMBER_LEN, TEXT_LIMIT};
 pub use micro_num::Unit;
-pub use reading::read_binary;
+pub use reading::{read_binary, read_binary_at_most};

@@ -1,5 +1,6 @@
 //! The facets of a binary STL, number by number.
 ghost use Rattle.std.specs.Prelude.{◌≡◌, ◌<◌, ◌≤◌, ◌+◌, Err, IfErr, IfOk, Ok, length};
+ghost use Rattle.geometry.specs.declared.limits.TheConstants.{FACET_LIMIT};
 ghost use Rattle.binary_stl.specs.Binary.{IsCornerAt, IsFacetAt, axis_number, coordinate_at, length_of};
 ghost use Rattle.binary_stl.specs.declared.binary_fault.BinaryFault.TheVariants.{Number};
 ghost use Rattle.binary_stl.specs.declared.binary_fault.CoordinateFault.{CoordinateFault};
@@ -9,11 +10,11 @@ use crate::binary_fault::{Axis, BinaryFault};
 use crate::form::{checked_count, number};
 use crate::limits::{CORNER_LEN, FACET_LEN, FACETS_START, NUMBER_LEN};
 use crate::single::coordinate;
-use geometry::{Facet, Point};
+use geometry::{FACET_LIMIT, Facet, Point};
 use micro_num::Unit;
 use std::alloc::Allocator;
 
-/// The facets of a binary STL, in order, at most [`FACET_LIMIT`](geometry::FACET_LIMIT) of them.
+/// The facets of a binary STL, in order, at most `limit` of them.
 ///
 /// A coordinate is the exact value of its number in `unit`, rounded once to the nearest micrometre, halves away from zero.
 ///
@@ -21,23 +22,35 @@ use std::alloc::Allocator;
 /// Bytes that are no facets have exactly one fault, which is returned unless memory runs out. In this order:
 /// - `Ended` if there are fewer than 84 bytes,
 /// - `Length` if there are not just as many as the count of facets takes,
-/// - `TooMany` if the count is above [`FACET_LIMIT`](geometry::FACET_LIMIT),
+/// - `TooMany` if the count is above `limit`,
 /// - `Number` for the first number, in the order of the bytes, that is a NaN, an infinity or out of range.
 ///
 /// `Memory` comes only if an allocation failed.
-pub fn read_binary<A: Allocator + Copy>(
+pub fn read_binary_at_most<A: Allocator + Copy>(
     alloc: A,
     bytes: &[u8],
+    limit: u32,
     unit: Unit,
 ) -> Result<Vec<Facet, A>, BinaryFault>
-    ensures { IsAnswerTo unit bytes.now result }
+    ensures { IsAnswerTo limit unit bytes.now result }
 {
-    let count = checked_count(bytes)?;
+    let count = checked_count(bytes, limit)?;
     let mut facets = Vec::with_capacity(alloc, count)?;
     for index in 0..count {
         facets.push(facet(bytes, index, unit)?)?;
     }
     Ok(facets)
+}
+
+/// The facets of a binary STL, in order, at most [`FACET_LIMIT`] of them: [`read_binary_at_most`] with this limit.
+pub fn read_binary<A: Allocator + Copy>(
+    alloc: A,
+    bytes: &[u8],
+    unit: Unit,
+) -> Result<Vec<Facet, A>, BinaryFault>
+    ensures { IsAnswerTo FACET_LIMIT unit bytes.now result }
+{
+    read_binary_at_most(alloc, bytes, FACET_LIMIT, unit)
 }
 
 /// The facet with this number.

@@ -10,7 +10,7 @@ use micro_num::{Unit, signed_coordinate};
 /// The exponent of infinities and NaNs.
 const GREATEST_EXPONENT: u32 = 255;
 
-/// A number with this exponent is a whole one, of at least 2^23 millimetres: out of range.
+/// A number with this exponent is a whole one, of at least 2^23 of any unit: out of range.
 const WHOLE_EXPONENT: u32 = 150;
 
 /// The bits of the fraction.
@@ -27,6 +27,8 @@ fn micrometres(unit: Unit) -> u64
     match unit {
         Unit::Millimetre => 1_000,
         Unit::Inch => 25_400,
+        Unit::Centimetre => 10_000,
+        Unit::Metre => 1_000_000,
     }
 }
 

@@ -148,35 +148,33 @@ impl<'m, A: Allocator + Copy + Send + Sync> Book<'m, A> {
 
     /// The complete build of a job. If the book's job is the same in content, its layers are taken over, and the missing ones
     /// are made. Otherwise all are made. `late` is the number of layers made. `Err` only if an allocation failed; the book is
-    /// then lost.
+    /// then lost. The jobs are compared facet by facet; `finish_own` compares none.
     pub fn finish(self, job: &'m Job<A>) -> Result<Build<'m, A>, AllocError>
         ensures job { IfOk result (λ build. build.job ≡ job.now) }
         ensures complete { IfOk result (λ build. IsComplete build.job build.layers) }
         ensures late { IfOk result (λ build. self.entry.job ≡ job.now → build.late + filed_count self.entry.places ≡ job.now.grid.layers) }
         ensures all_late { IfOk result (λ build. self.entry.job ≢ job.now → build.late ≡ job.now.grid.layers) }
     {
-        let alloc = self.alloc;
-        let mut places = self.places_for(job)?;
-        let late = make_missing(alloc, job, places.as_mut_slice())?;
-        let layers = all_layers(alloc, places)?;
-        Ok(Build::of(job, layers, late))
+        if self.job.same(job) {
+            self.finish_own()
+        } else {
+            Book::open(self.alloc, job)?.finish_own()
+        }
     }
 
-    /// The book's places if its job is the same as this one in content, else empty places.
-    fn places_for(self, job: &Job<A>) -> Result<Vec<Option<Layer<A>>, A>, AllocError>
-        ensures lawful { IfOk result (λ found. IsLawfulBook (record { job = job.now; places = found.items })) }
-        ensures same { IfOk result (λ found. self.entry.job ≡ job.now → found.items ≡ self.entry.places) }
-        ensures other { IfOk result (λ found. self.entry.job ≢ job.now → filed_count found.items ≡ 0) }
+    /// The complete build of the book's job, as `finish` makes it, but compares no jobs.
+    pub fn finish_own(self) -> Result<Build<'m, A>, AllocError>
+        ensures job { IfOk result (λ build. build.job ≡ self.entry.job) }
+        ensures complete { IfOk result (λ build. IsComplete build.job build.layers) }
+        ensures late { IfOk result (λ build. build.late + filed_count self.entry.places ≡ self.entry.job.grid.layers) }
     {
         let Book {
             alloc,
-            job: mine,
-            places,
+            job,
+            mut places,
         } = self;
-        if mine.same(job) {
-            Ok(places)
-        } else {
-            empty_places(alloc, job.grid().layers())
-        }
+        let late = make_missing(alloc, job, places.as_mut_slice())?;
+        let layers = all_layers(alloc, places)?;
+        Ok(Build::of(job, layers, late))
     }
 }

@@ -14,7 +14,7 @@
 //! - [`Layer`]: the loops, the filled pixels and their area, of one plane. Areas are counts of pixels.
 //! - [`Piece`]: the layers of one stripe. [`slice_stripe`] makes one; a [`Slicer`] makes several and keeps its memory.
 //! - [`Book`]: a place for each layer. Pieces are filed in any order, and [`FileFault`] says why one is not.
-//! - [`Build`]: all layers. `Book::finish` makes what is not filed; these layers are `late`.
+//! - [`Build`]: all layers. `Book::finish` and `finish_own` make what is not filed; these layers are `late`.
 //!
 //! Each layer of a piece, a book or a build is lawful: it is the one that the job makes there by the definition in
 //! `specs/Layer`. By [`one_layer`], no other layer is lawful. The law [`headline`] says what a lawful layer has: closed loops,

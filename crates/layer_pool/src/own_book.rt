@@ -39,16 +39,17 @@ impl<'m, A: Allocator + Copy + Send + Sync, J: OfJob> OwnBook<'m, A, J> {
         }
     }
 
-    /// Files a piece of the build's job. If the book refuses it, `finish` makes its layers.
+    /// Files a piece of the build's job. If the book refuses it, `finish_own` makes its layers.
     pub(crate) fn file(&mut self, piece: Piece<'m, A>)
         requires { piece.job ≡ J.job }
     {
         let _ = self.book.file_own(piece);
     }
 
-    /// Gives the book back.
+    /// Gives the book back, which is of the build's job.
     pub(crate) fn into_book(self) -> Book<'m, A>
-        ensures { result ≡ self.entry.book }
+        ensures same { result ≡ self.entry.book }
+        ensures own { result.job ≡ J.job }
     {
         let OwnBook { book, .. } = self;
         book

@@ -66,7 +66,7 @@ fn build_of<
         gate,
     };
     run_workers(&shared, passes);
-    book.into_inner().into_book().finish(job)
+    book.into_inner().into_book().finish_own()
 }
 
 /// What the workers of a build share.

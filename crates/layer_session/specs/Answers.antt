@@ -5,6 +5,7 @@ use Rattle.geometry.specs.Winding.{ray, ray_y}
 use Rattle.raster.specs.Filler.{area_of, is_filled}
 use Rattle.raster.specs.Grid.{Grid, centre, is_voxel}
 use Rattle.raster.specs.Image.{layer_image}
+use Rattle.raster.specs.declared.rule.Rule.{Rule}
 use Rattle.layer_png.specs.Layer.{column_at, row_at}
 use Rattle.layer_png.specs.Text.{layer_png}
 use Rattle.layer_png.specs.declared.depth.Depth.{Depth}
@@ -21,9 +22,9 @@ image_of job k = layer_image job.grid job.rule job.solid.facets k
 abbrev pub images_between : Job → ℕ → ℕ → List ℕ
 images_between job from to = flat_map (image_of job) (range_with_len from (to - from))
 
--- the numbers of the filled pixels of so many layers, from layer `first` on
-abbrev pub areas_of : Job → ℕ → ℕ → List ℕ
-areas_of job first count = map (area_of job.grid job.rule job.solid.facets) (range_with_len first count)
+-- the numbers of the filled pixels of so many layers by a rule, from layer `first` on
+abbrev pub areas_of : Job → Rule → ℕ → ℕ → List ℕ
+areas_of job rule first count = map (area_of job.grid rule job.solid.facets) (range_with_len first count)
 
 -- the pixel of column x and row y of the PNG of layer k, from the left and from the top, is white: its voxel is filled
 abbrev pub is_white_pixel : Job → ℕ → Mirrors → ℕ → ℕ → Bool

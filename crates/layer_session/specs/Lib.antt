@@ -1,3 +1,4 @@
+pub mod Place
 pub mod Setup
 pub mod Session
 pub mod Answers

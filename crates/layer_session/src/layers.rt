@@ -1,5 +1,5 @@
 //! What is made of a job's layers: loops, as segments and as points, filled pixels and their number, images and PNGs.
-ghost use Rattle.std.specs.Prelude.{◌≡◌, ◌<◌, ◌≤◌, ◌≤ℤ◌, ◌+◌, ◌-◌, ◌++◌, All, IfOk, OnOk, length};
+ghost use Rattle.std.specs.Prelude.{◌≡◌, ◌<◌, ◌≤◌, ◌≤ℤ◌, ◌+◌, ◌-◌, ◌++◌, All, IfOk, OnOk, length, ℕ};
 ghost use Rattle.build_book.specs.Job.{stripe_count};
 ghost use Rattle.build_book.specs.Layer.{layer_segments};
 ghost use Rattle.plane_segments.specs.Segment.{HasOrderedNodes};
@@ -10,12 +10,14 @@ ghost use Rattle.layer_png.specs.Layer.{grey};
 ghost use Rattle.layer_png.specs.Png.{IsPng};
 ghost use Rattle.raster.specs.Filler.{IsFillOf, area_of};
 ghost use Rattle.raster.specs.Grid.{plane};
+ghost use Rattle.raster.specs.Span.{AreSpans};
+ghost use Rattle.raster.specs.declared.rule.Rule.{Rule as RuleModel};
 ghost use Rattle.layer_session.specs.Answers.{areas_of, image_of, images_between, is_white_pixel, png_of_layer, stripe_images};
 
 use build_book::Job;
 use contour::{Linker, Loops, Outlines, Segment, Sweep};
 use layer_png::{Depth, Mirrors, write_png};
-use raster::{Filler, Page, Span, area, fill, image_len};
+use raster::{Filler, Page, Rule, Span, area, fill, image_len};
 use std::alloc::{AllocError, Allocator};
 
 /// The segments of layer k of a job, by a sweep that starts at its plane: so it looks at few facets beside those that it cuts.
@@ -89,36 +91,38 @@ pub(crate) fn layer_area<A: Allocator + Copy + Send + Sync>(
     ensures { IfOk result (λ area. area ≡ area_of job.now.grid job.now.rule job.now.solid.facets k) }
 {
     let spans = layer_spans(alloc, job, k)?;
-    Ok(area_of_spans(job, k, spans.as_slice()))
+    Ok(area_of_spans(job, spans.as_slice()))
 }
 
-/// The number of the filled pixels of layer k of a job, which are these spans.
-fn area_of_spans<A: Allocator>(job: &Job<A>, k: u32, spans: &[Span]) -> u64
-    requires { IsFillOf job.now.grid job.now.rule job.now.solid.facets k spans.now }
-    ensures { result ≡ area_of job.now.grid job.now.rule job.now.solid.facets k }
+/// The number of the filled pixels of a layer of a job by a rule, which are these spans.
+fn area_of_spans<A: Allocator>(job: &Job<A>, spans: &[Span]) -> u64
+    requires { AreSpans job.now.grid.columns job.now.grid.rows spans.now }
+    ensures { (rule : RuleModel) (k : ℕ) → IsFillOf job.now.grid rule job.now.solid.facets k spans.now
+        → result ≡ area_of job.now.grid rule job.now.solid.facets k }
 {
     // `area` requires counts within their limits
     job.grid().hold_limits();
     area(spans)
 }
 
-/// The numbers of the filled pixels of the layers from `first` up to, but not including, `end`, by one sweep.
+/// The numbers of the filled pixels of the layers from `first` up to, but not including, `end`, by a rule and by one sweep.
 pub(crate) fn layer_areas<A: Allocator + Copy + Send + Sync>(
     alloc: A,
     job: &Job<A>,
+    rule: Rule,
     first: u32,
     end: u32,
 ) -> Result<Vec<u64, A>, AllocError>
     requires some { first < end }
     requires within { end ≤ job.now.grid.layers }
-    ensures { IfOk result (λ areas. areas.items ≡ areas_of job.now first (end - first)) }
+    ensures { IfOk result (λ areas. areas.items ≡ areas_of job.now rule first (end - first)) }
 {
     let mut areas = Vec::with_capacity(alloc, (end - first) as usize)?;
     let mut sweep = Sweep::start(alloc, job.solid(), job.grid().plane(first))?;
     let mut filler = Filler::new(alloc);
     for k in first..end {
-        let spans = spans_by_sweep(job, k, &mut sweep, &mut filler)?;
-        areas.push(area_of_spans(job, k, spans.as_slice()))?;
+        let spans = spans_by_sweep(job, rule, k, &mut sweep, &mut filler)?;
+        areas.push(area_of_spans(job, spans.as_slice()))?;
     }
     Ok(areas)
 }
@@ -215,14 +219,15 @@ fn draw_layer<A: Allocator + Copy + Send + Sync>(
     ensures drawn { OnOk result (page.new.bytes ≡ page.old.bytes ++ image_of job.now k) }
     ensures room { OnOk result (page.new.room ≡ page.old.room) }
 {
-    let spans = spans_by_sweep(job, k, sweep, filler)?;
+    let spans = spans_by_sweep(job, job.rule(), k, sweep, filler)?;
     draw_spans(job, k, spans.as_slice(), page);
     Ok(())
 }
 
-/// Raises the sweep to the plane of layer k: the filled pixels of the layer.
+/// Raises the sweep to the plane of layer k: the filled pixels of the layer by a rule.
 fn spans_by_sweep<A: Allocator + Copy + Send + Sync>(
     job: &Job<A>,
+    rule: Rule,
     k: u32,
     sweep: &mut Sweep<'_, A>,
     filler: &mut Filler<A>,
@@ -232,11 +237,11 @@ fn spans_by_sweep<A: Allocator + Copy + Send + Sync>(
     requires height { sweep.old.height ≤ℤ plane job.now.grid k }
     ensures solid { OnOk result (sweep.new.facets ≡ sweep.old.facets) }
     ensures height { OnOk result (sweep.new.height ≡ plane job.now.grid k) }
-    ensures filled { IfOk result (λ spans. IsFillOf job.now.grid job.now.rule job.now.solid.facets k spans.items) }
+    ensures filled { IfOk result (λ spans. IsFillOf job.now.grid rule job.now.solid.facets k spans.items) }
 {
     sweep.advance(job.grid().plane(k))?;
     let list = sweep.segments()?;
-    let spans = filler.fill(job.solid(), job.grid(), job.rule(), k, list.as_slice())?;
+    let spans = filler.fill(job.solid(), job.grid(), rule, k, list.as_slice())?;
     Ok(spans)
 }
 

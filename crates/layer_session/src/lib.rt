@@ -3,10 +3,12 @@
 //! ```text
 //! let setup = Setup {
 //!     unit: Unit::Millimetre,
-//!     pitch: 50,                                  // micrometres
-//!     layer: 100,
+//!     layer: 100,                                 // micrometres
 //!     rule: Rule::NonZero,
-//!     placing: Placing::Fitted,
+//!     place: Place::Grid {
+//!         pitch: 50,
+//!         placing: Placing::Fitted,
+//!     },
 //! };
 //! let session = Session::open(alloc, bytes, &setup)?;
 //! let session = Session::open_mesh(alloc, points, triangles, &setup)?;    // the same from arrays
@@ -21,12 +23,13 @@
 //! ```
 //!
 //! - [`Session`]: the closed mesh of a file, binary STL or ASCII STL, or of arrays, in its grid, with a rule. No call changes it.
-//! - [`read_file`]: the facets of a file of either form.
+//! - [`read_file`], [`read_file_at_most`]: the facets of a file of either form.
 //! - [`SessionReader`]: opens an ASCII STL text that arrives in chunks.
-//! - [`Setup`]: what a file or arrays are opened with; [`Placing`]: a grid that fits the mesh, or a given one.
+//! - [`Setup`]: what a file or arrays are opened with.
+//! - [`Place`]: where the mesh is, in a grid that fits it or in a given one ([`Placing`]); or on a printer's screen ([`Screen`]).
 //! - [`SessionFault`]: why there is no session, or no answer. Its `Display` is what the program writes for the fault after
-//!   `stlslice: `. There are three exceptions: the program refuses `Step` as it reads its words, and has neither binary files nor
-//!   arrays.
+//!   `stlslice: `. There are four exceptions: the program refuses `Step` as it reads its words, and has no binary files, arrays
+//!   or screens.
 //! - [`Loops`] of [`Segment`]s between [`Node`]s, and [`Outlines`] of [`PlanePoint`]s: what `Session::loops` and
 //!   `Session::outlines` return, re-exported from `contour`.
 //! - [`BinaryFault`], re-exported from `binary_stl`; [`ArrayFault`], re-exported from `mesh_arrays`; [`Unit`], re-exported from
@@ -35,7 +38,7 @@
 //! - [`STEP_LIMIT`]: the greatest pitch and layer height; [`STRIPE_LAYERS`]: the number of layers of a stripe.
 //! - [`one_answer`]: a law. A setup and a file, or arrays, have one answer, a session or a fault, if memory suffices.
 //! - [`same_answer`]: a law. A file and arrays, or two files, that are read as the same facets have the same answer.
-//! - [`text_as_file`]: a law. The file of a text has the answer of the text.
+//! - [`text_as_file`]: a law. The file of a text has the answer of the text, unless its bytes 80 to 83 imitate a count.
 //!
 //! Pitch, layer height, origin and box are in micrometres. Columns, rows and layers count from 0 along x, y and z, and
 //! stripes, which are eight layers each, from the lowest up.
@@ -44,6 +47,7 @@
 mod file;
 mod laws;
 mod layers;
+mod place;
 mod session;
 mod session_fault;
 mod session_reader;
@@ -52,12 +56,14 @@ mod setup;
 pub use binary_stl::BinaryFault;
 pub use build_book::STRIPE_LAYERS;
 pub use contour::{Loops, Node, Outlines, PlanePoint, Segment};
-pub use file::read_file;
+pub use file::{read_file, read_file_at_most};
 pub use geometry::STEP_LIMIT;
 pub use laws::{one_answer, same_answer, text_as_file};
 pub use layer_png::{Depth, Mirrors};
 pub use mesh_arrays::ArrayFault;
 pub use micro_num::Unit;
+pub use part_on_screen::{PixelSide, Quarters, Screen, ScreenFault};
+pub use place::Place;
 pub use raster::{Grid, Placing, Rule};
 pub use session::Session;
 pub use session_fault::SessionFault;

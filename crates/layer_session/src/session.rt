@@ -29,7 +29,7 @@ use contour::{Loops, Outlines};
 use geometry::{Facet, Point, extent};
 use layer_png::{Depth, Mirrors};
 use mesh_arrays::read_arrays;
-use mesh_weld::{probe, weld};
+use mesh_weld::probe;
 use raster::{Grid, Rule, image_len};
 use std::alloc::Allocator;
 use std::marker::Model;
@@ -41,6 +41,7 @@ pub struct Session<A: Allocator> {
     job: Job<A>,
     facet_count: usize,
     bounds: Option<(Point, Point)>,
+    times: (u64, u64),
 }
 
 impl<A: Allocator> Model for Session<A> {
@@ -48,20 +49,22 @@ impl<A: Allocator> Model for Session<A> {
 
     ghost Value = { Session };
 
-    ghost view = { λ s. record { job = s.job; facet_count = s.facet_count; bounds = s.bounds } };
+    ghost view = { λ s. record { job = s.job; facet_count = s.facet_count; bounds = s.bounds; times = s.times } };
 }
 
 impl<A: Allocator + Copy + Send + Sync> Session<A> {
-    /// Opens the bytes of a file, binary STL or ASCII STL: reads it, drops the facets with two equal corners, welds the others
-    /// and lays the grid. [`read_file`](crate::read_file) says which of the two a file is.
+    /// Opens the bytes of a file, binary STL or ASCII STL: reads it, puts the facets on the screen if there is one, drops those
+    /// with two equal corners, welds the others and lays the grid. [`read_file`](crate::read_file) says which of the two a file
+    /// is.
     ///
     /// # Errors
     /// In this order:
     /// - `Step` if pitch or layer height is out of range,
     /// - `Binary` if the file is read as a binary STL and is no facets,
     /// - `Stl` if it is read as a text and is no facets,
+    /// - `Screen` if a coordinate that is multiplied for a screen is out of range,
     /// - `Weld` if the edges of all its facets do not balance,
-    /// - `Grid` if there is no grid.
+    /// - `Grid` if there is no grid, on a screen `Screen`.
     ///
     /// `Memory` comes only if an allocation failed, and never in place of `Step`. `Outside` does not come.
     pub fn open(alloc: A, bytes: &[u8], setup: &Setup) -> Result<Session<A>, SessionFault>
@@ -76,8 +79,8 @@ impl<A: Allocator + Copy + Send + Sync> Session<A> {
         Session::of_facets(alloc, facets, setup)
     }
 
-    /// Opens a mesh from arrays: takes the facets of the triangles, drops those with two equal corners, welds the others and
-    /// lays the grid.
+    /// Opens a mesh from arrays: takes the facets of the triangles, puts them on the screen if there is one, drops those with two
+    /// equal corners, welds the others and lays the grid.
     ///
     /// Points are three coordinates each, in whole micrometres. Triangles are the indices of their corners among the points,
     /// counterclockwise as seen from outside. The unit of `setup` is not used. If a file reads as these facets,
@@ -87,8 +90,9 @@ impl<A: Allocator + Copy + Send + Sync> Session<A> {
     /// In this order:
     /// - `Step` if pitch or layer height is out of range,
     /// - `Arrays` if the arrays are no facets,
+    /// - `Screen` if a coordinate that is multiplied for a screen is out of range,
     /// - `Weld` if the edges of all facets do not balance,
-    /// - `Grid` if there is no grid.
+    /// - `Grid` if there is no grid, on a screen `Screen`.
     ///
     /// `Memory` comes only if an allocation failed, and never in place of `Step`. `Stl`, `Binary` and `Outside` do not come.
     pub fn open_mesh(
@@ -123,13 +127,14 @@ impl<A: Allocator + Copy + Send + Sync> Session<A> {
     {
         let facet_count = facets.len();
         let bounds = extent(facets.as_slice());
-        let solid = weld(alloc, facets)?;
-        let grid = setup.placing.grid(&solid, setup.pitch, setup.layer)?;
+        let solid = setup.place.solid(alloc, facets)?;
+        let grid = setup.place.grid(&solid, setup.layer)?;
         Ok(Session {
             alloc,
             job: Job::new(solid, grid, setup.rule),
             facet_count,
             bounds,
+            times: setup.place.times(),
         })
     }
 
@@ -196,6 +201,13 @@ impl<A: Allocator + Copy + Send + Sync> Session<A> {
         ensures { result ≡ self.now.bounds }
     {
         self.bounds
+    }
+
+    /// By what x and y of the facets that were read are multiplied: those of the screen, or 1 and 1 if the mesh is on none.
+    pub fn times(&self) -> (u64, u64)
+        ensures { result ≡ self.now.times }
+    {
+        self.times
     }
 
     /// The image of layer k in raw PBM ("P4", pbm(5)), as the program writes it. A pixel is black if its voxel is filled, and
@@ -265,7 +277,19 @@ impl<A: Allocator + Copy + Send + Sync> Session<A> {
     /// # Errors
     /// `Outside` exactly if the grid has not all of these layers; `Memory` only if an allocation failed.
     pub fn areas(&self, first: u32, count: u32) -> Result<Vec<u64, A>, SessionFault>
-        ensures areas { IfOk result (λ areas. areas.items ≡ areas_of self.now.job first count) }
+        ensures areas { IfOk result (λ areas. areas.items ≡ areas_of self.now.job self.now.job.rule first count) }
+        ensures within { OnOk result (first + count ≤ self.now.job.grid.layers) }
+        ensures fault { IfErr result (IsRangeFault self.now.job.grid first count) }
+    {
+        self.areas_by(self.rule(), first, count)
+    }
+
+    /// The numbers of filled pixels as [`Session::areas`] gives them, but by any rule.
+    ///
+    /// # Errors
+    /// `Outside` exactly if the grid has not all of these layers; `Memory` only if an allocation failed.
+    pub fn areas_by(&self, rule: Rule, first: u32, count: u32) -> Result<Vec<u64, A>, SessionFault>
+        ensures areas { IfOk result (λ areas. areas.items ≡ areas_of self.now.job rule first count) }
         ensures within { OnOk result (first + count ≤ self.now.job.grid.layers) }
         ensures fault { IfErr result (IsRangeFault self.now.job.grid first count) }
     {
@@ -275,7 +299,7 @@ impl<A: Allocator + Copy + Send + Sync> Session<A> {
         if count == 0 {
             return Ok(Vec::new(self.alloc));
         }
-        Ok(layer_areas(self.alloc, &self.job, first, first + count)?)
+        Ok(layer_areas(self.alloc, &self.job, rule, first, first + count)?)
     }
 
     /// The loops of layer k: the closed cycles of the segments in which its plane cuts the mesh, each segment in exactly

@@ -2,14 +2,14 @@
 ghost use Rattle.std.specs.Prelude.{◌≡◌, ◌≢◌, Some};
 ghost use Rattle.binary_stl.specs.declared.binary_fault.BinaryFault.TheVariants as binary_fault;
 ghost use Rattle.mesh_arrays.specs.declared.array_fault.ArrayFault.TheVariants as array_fault;
-ghost use Rattle.mesh_weld.specs.declared.weld_fault.WeldFault.TheVariants as weld_fault;
 ghost use Rattle.stl_text.specs.declared.stl_fault.StlFault.TheVariants as stl_fault;
 ghost use Rattle.layer_session.specs.SessionFault.{session_fault_text};
-ghost use Rattle.layer_session.specs.declared.session_fault.SessionFault.TheVariants.{Arrays, Binary, Grid, Memory, Stl, Weld};
+ghost use Rattle.layer_session.specs.declared.session_fault.SessionFault.TheVariants.{Arrays, Binary, Grid, Memory, Screen, Stl};
 
 use binary_stl::BinaryFault;
 use mesh_arrays::ArrayFault;
 use mesh_weld::WeldFault;
+use part_on_screen::ScreenFault;
 use raster::GridFault;
 use std::alloc::AllocError;
 use std::fmt::{self, Display, Formatter, Write};
@@ -17,8 +17,8 @@ use stl_text::StlFault;
 use thiserror::Error;
 
 /// Why there is no session, or no answer of one. Its `Display` is the program's line on standard error, after `stlslice: `, but
-/// for `Step`, `Binary` and `Arrays`. The program checks pitch and layer height as it reads its words, and names the option. It
-/// reads texts alone.
+/// for `Step`, `Binary`, `Arrays` and `Screen`. The program checks pitch and layer height as it reads its words, and names the
+/// option. It reads texts alone, and has no screens.
 #[derive(Clone, Copy, Debug, PartialEq, Eq, Error)]
 pub enum SessionFault {
     /// Pitch or layer height is out of range.
@@ -29,10 +29,13 @@ pub enum SessionFault {
     Binary(BinaryFault),
     /// The arrays are no facets. It is not `ArrayFault::Memory`.
     Arrays(ArrayFault),
-    /// The mesh is not closed. It is not `WeldFault::Memory`.
+    /// The mesh is not closed. It is not `WeldFault::Memory`. The points are those of the facets that were read, also on a
+    /// screen. There the edge is the least as the facets stand, so which one it is may depend on the turn.
     Weld(WeldFault),
     /// There is no grid.
     Grid(GridFault),
+    /// The mesh cannot stand on the screen.
+    Screen(ScreenFault),
     /// An allocation failed.
     Memory,
     /// The layer, the stripe or the voxel is not in the grid, which has these counts.
@@ -56,6 +59,7 @@ impl Display for SessionFault {
             SessionFault::Arrays(cause) => cause.fmt(f),
             SessionFault::Weld(cause) => cause.fmt(f),
             SessionFault::Grid(cause) => cause.fmt(f),
+            SessionFault::Screen(cause) => cause.fmt(f),
             SessionFault::Memory => f.write_str("out of memory"),
             SessionFault::Outside {
                 columns,
@@ -113,22 +117,18 @@ impl From<ArrayFault> for SessionFault {
     }
 }
 
-impl From<WeldFault> for SessionFault {
-    ghost from_gives = { λ cause fault. (cause ≡ weld_fault.Memory → fault ≡ Memory)
-        × (cause ≢ weld_fault.Memory → fault ≡ Weld cause) };
-
-    fn from(cause: WeldFault) -> SessionFault {
-        match cause {
-            WeldFault::Memory => SessionFault::Memory,
-            _ => SessionFault::Weld(cause),
-        }
-    }
-}
-
 impl From<GridFault> for SessionFault {
     ghost from_gives = { λ cause fault. fault ≡ Grid cause };
 
     fn from(cause: GridFault) -> SessionFault {
         SessionFault::Grid(cause)
+    }
+}
+
+impl From<ScreenFault> for SessionFault {
+    ghost from_gives = { λ cause fault. fault ≡ Screen cause };
+
+    fn from(cause: ScreenFault) -> SessionFault {
+        SessionFault::Screen(cause)
     }
 }

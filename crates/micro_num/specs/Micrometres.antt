@@ -5,7 +5,7 @@
 -- - `coordinate_of unit word`: the coordinate that a word stands for, or its fault
 use Rattle.std.specs.Prelude.{ℕ, ◌+◌, ◌*◌, ◌/◌, ◌^◌, Bool, List, length, Option, Some, None, Result, Ok, Err, ℤ, pos, negsuc, ◌+ℤ◌, ◌-ℤ◌, neg_ℤ, nat_abs, nat_lt, nat_le, if◌then◌else◌, fold, ◌-◌, suc}
 use Rattle.micro_num.specs.declared.unit.Unit.{Unit as LengthUnit}
-use Rattle.micro_num.specs.declared.unit.Unit.TheVariants.{Millimetre, Inch}
+use Rattle.micro_num.specs.declared.unit.Unit.TheVariants.{Millimetre, Inch, Centimetre, Metre}
 use Rattle.micro_num.specs.declared.num_fault.NumFault.{NumFault}
 use Rattle.micro_num.specs.declared.num_fault.NumFault.TheVariants.{NotNumber, TooLong, OutOfRange}
 use Rattle.micro_num.specs.Numeral.{Sign, unsigned, plus, minus, Exponent, Numeral, fraction_digits, mantissa_digits, numeral_of}
@@ -40,15 +40,19 @@ unfoldable pub magnitude : ℕ → ℤ → ℕ
 magnitude m (pos k) = m * 10 ^ k
 magnitude m (negsuc k) = rounded_quotient m (suc k)
 
--- A millimetre is 1,000 micrometres, and an inch is INCH_FACTOR times 100.
+-- A unit is its factor times a power of ten, in micrometres: an inch is INCH_FACTOR times 100, and the others are powers of ten.
 abbrev pub unit_factor : LengthUnit → ℕ
 unit_factor Millimetre = 1
 unit_factor Inch = INCH_FACTOR
+unit_factor Centimetre = 1
+unit_factor Metre = 1
 
 -- the power of ten of a unit, beside its factor
 abbrev pub unit_power : LengthUnit → ℕ
 unit_power Millimetre = 3
 unit_power Inch = 2
+unit_power Centimetre = 4
+unit_power Metre = 6
 
 -- the value in micrometres is the digits of the mantissa, times the factor of the unit, times ten to this power
 abbrev pub power_of : LengthUnit → Numeral → ℤ

@@ -19,7 +19,7 @@ use geometry::COORDINATE_LIMIT;
 ///
 /// A number is an optional sign, then at least one digit with at most one point before, among or after the digits, then an
 /// optional exponent. An exponent is `e` or `E`, an optional sign and at least one digit. This is the decimal form that C's
-/// `strtod` reads. A number in inches is multiplied by 25,400, one in millimetres by 1,000, before it is rounded.
+/// `strtod` reads. The number is multiplied by the micrometres of its unit before it is rounded.
 ///
 /// # Errors
 /// - `TooLong` if the word has more than [`WORD_LIMIT`] bytes,

@@ -96,7 +96,7 @@ fn in_unit(mantissa: &Mantissa<'_>, unit: Unit) -> u64
         (unit_factor unit * digits_value (mantissa.now.whole.now ++ mantissa.now.fraction.now)) }
 {
     match unit {
-        Unit::Millimetre => mantissa.leading.value,
+        Unit::Millimetre | Unit::Centimetre | Unit::Metre => mantissa.leading.value,
         Unit::Inch if mantissa.leading.dropped == 0 => INCH_FACTOR * mantissa.leading.value,
         Unit::Inch => in_inches(mantissa.leading, mantissa.whole, mantissa.fraction),
     }
@@ -110,6 +110,8 @@ fn power_in(unit: Unit) -> i64
     match unit {
         Unit::Millimetre => 3,
         Unit::Inch => 2,
+        Unit::Centimetre => 4,
+        Unit::Metre => 6,
     }
 }
 

@@ -6,4 +6,8 @@ pub enum Unit {
     Millimetre,
     /// 25,400 micrometres.
     Inch,
+    /// 10,000 micrometres.
+    Centimetre,
+    /// 1,000,000 micrometres.
+    Metre,
 }

@@ -4,3 +4,7 @@ pub mod Layers
 pub mod Places
 pub mod Standing
 pub mod StretchedRays
+pub mod Decided
+pub mod OneGrid
+pub mod SomeGrid
+pub mod Quotients

@@ -1,7 +1,8 @@
 -- How a part stands on a screen, by the bounding box of its facets there: in the middle, its lowest point on the first layer.
 -- - `IsGridOn`: the grid of the part
 -- - `IsNoGrid`: why there is none
--- - `IsPlacing`, `IsNoPlacing`: the facets on the screen and their grid, or why there are none
+-- - `IsInReach`: facets with corners in range
+-- - `IsGridOfPart`, `IsNoGridOfPart`: the grid of facets, or why there is none
 use Rattle.std.specs.Prelude.{◌≡◌, ◌≤◌, ◌<◌, ◌≤ℤ◌, ◌<ℤ◌, ◌+ℤ◌, ◌-ℤ◌, ◌*ℤ◌, ◌*◌, ◌/◌, ◌↔◌, ◌⊎◌, All, IsTrue, List, Some, length, nat_abs, pos, ℕ, ℤ}
 use Rattle.exact_int.specs.Bounds.{IsAtMost}
 use Rattle.geometry.specs.BoundingBox.{Bounds, bounds}
@@ -10,7 +11,6 @@ use Rattle.geometry.specs.Point.{Point, IsMeshPoint}
 use Rattle.geometry.specs.declared.limits.TheConstants.{COORDINATE_LIMIT, LAYER_LIMIT}
 use Rattle.raster.specs.Grid.{Grid, middle}
 use Rattle.part_on_screen.specs.Screen.{Screen}
-use Rattle.part_on_screen.specs.Stretched.{part_on_screen}
 use Rattle.part_on_screen.specs.declared.screen_fault.ScreenFault.{ScreenFault}
 use Rattle.part_on_screen.specs.declared.screen_fault.ScreenFault.TheVariants as fault
 use Rattle.part_on_screen.specs.declared.screen_fault.ScreenFault.TheVariants.{NoFacets, OutOfRange}
@@ -67,6 +67,7 @@ pub record IsGridOn (s : Screen) (low high : Point) (layer_height : ℕ) (g : Gr
   pub range_y : IsInRange (screen_depth s) g.origin.y
   pub first_layer : g.origin.z ≡ low.z
   pub layers : IsLayerCount low.z high.z layer_height g.layers
+  pub few_layers : g.layers ≤ LAYER_LIMIT
 
 -- The sizes of a box and of the screen in micrometres, not multiplied. The sides of a box of a part are whole multiples.
 pub record AreSizes (s : Screen) (low high : Point) (width depth width_of_screen depth_of_screen : ℕ) : Type 0 where
@@ -99,7 +100,7 @@ HasMeshPoints t = IsMeshPoint t.a × IsMeshPoint t.b × IsMeshPoint t.c
 abbrev pub IsInReach : List Facet → Type 0
 IsInReach facets = All HasMeshPoints facets
 
--- the grid of a part by its facets on the screen
+-- the grid of a part by its facets, which stand on the screen
 abbrev pub IsGridOfPart : Screen → List Facet → ℕ → Grid → Type 0
 IsGridOfPart s placed layer_height g = (b : Bounds) × (bounds placed ≡ Some b) × IsGridOn s b.low b.high layer_height g
 
@@ -108,15 +109,3 @@ abbrev pub IsNoGridOfPart : Screen → List Facet → ℕ → ScreenFault → Ty
 IsNoGridOfPart s placed layer_height fault =
     ((fault ≡ NoFacets) × (length placed ≡ 0))
     ⊎ ((b : Bounds) × (bounds placed ≡ Some b) × IsNoGrid s b.low b.high layer_height fault)
-
--- what facets stand as on a screen, and their grid
-pub record IsPlacing (s : Screen) (facets : List Facet) (layer_height : ℕ) (placed : List Facet) (g : Grid) : Type 0 where
-  pub on_screen : placed ≡ part_on_screen s facets
-  pub reach : IsInReach placed
-  pub grid : IsGridOfPart s placed layer_height g
-
--- The one fault of a part that cannot stand on the screen: a point is out of range there, or else there is no grid.
-abbrev pub IsNoPlacing : Screen → List Facet → ℕ → ScreenFault → Type 0
-IsNoPlacing s facets layer_height fault =
-    ((fault ≡ OutOfRange) × (IsInReach (part_on_screen s facets) → ⊥))
-    ⊎ (IsInReach (part_on_screen s facets) × IsNoGridOfPart s (part_on_screen s facets) layer_height fault)

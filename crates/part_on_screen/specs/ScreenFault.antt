@@ -13,7 +13,7 @@ screen_fault_text (fault.TooManyPixels columns rows) =
     codes "screen too large: " ++ (decimal columns ++ (codes " columns, " ++ (decimal rows ++ codes " rows")))
 screen_fault_text fault.NoSide = codes "pixel has no size"
 screen_fault_text fault.NoPitch = codes "no whole number of micrometres up to 100000 is a multiple of both sides of a pixel"
-screen_fault_text fault.NoFacets = codes "part has no facets"
+screen_fault_text fault.NoFacets = codes "no facet is left"
 screen_fault_text fault.OutOfRange = codes "part too far from the origin for these pixels"
 screen_fault_text (fault.DoesNotFit width depth screen_width screen_depth fits_turned) =
     codes "part does not fit: " ++ (decimal width ++ (codes " x " ++ (decimal depth ++ (codes " micrometres on a screen of "

@@ -1,53 +1,57 @@
 //! Points, facets and parts as they stand on a screen.
-ghost use Rattle.std.specs.Prelude.{◌≡◌, ◌↔◌, ◌*ℤ◌, IfErr, IfOk, IfSome, IsNone, IsSome, IsTrue, pos, ℤ};
+ghost use Rattle.std.specs.Prelude.{◌≡◌, ◌≤◌, ◌↔◌, ◌*ℤ◌, IfErr, IfOk, IfSome, IsNone, IsSome, IsTrue, OnOk, pos, ℤ};
 ghost use Rattle.exact_int.specs.Bounds.{IsAtMost};
 ghost use Rattle.geometry.specs.Limits.{IsStep};
-ghost use Rattle.geometry.specs.Point.{IsMeshPoint};
+ghost use Rattle.geometry.specs.Point.{IsMeshPoint, Point as PointModel};
 ghost use Rattle.geometry.specs.declared.limits.TheConstants.{COORDINATE_LIMIT};
-ghost use Rattle.part_on_screen.specs.Middle.{HasMeshPoints, IsGridOfPart, IsInReach, IsNoGridOfPart, IsNoPlacing, IsPlacing};
+ghost use Rattle.part_on_screen.specs.Middle.{HasMeshPoints, IsGridOfPart, IsInReach, IsNoGridOfPart};
 ghost use Rattle.part_on_screen.specs.Stretched.{facet_on_screen, on_screen, part_on_screen};
 ghost use Rattle.part_on_screen.specs.Turned.{turned};
+ghost use Rattle.part_on_screen.specs.declared.screen_fault.ScreenFault.TheVariants.{OutOfRange};
 
 use crate::quarters::Quarters;
 use crate::screen::Screen;
 use crate::screen_fault::ScreenFault;
-use geometry::{Facet, Point, extent};
+use exact_int::ceil_div;
+use geometry::{Facet, Point};
+use mesh_weld::Solid;
 use raster::Grid;
 use std::alloc::Allocator;
 
 impl Screen {
-    /// The facets of a part as they stand on this screen, in order, and their grid with this layer height (micrometres, 1 to
-    /// `STEP_LIMIT`), as of [`Screen::grid`]. The facets take the place of those that were given, so no memory is needed.
+    /// The facets of a part as they stand on this screen, in order. They take the place of those that were given, so no memory
+    /// is needed.
     ///
     /// # Errors
-    /// The first of these that applies:
-    /// - `NoFacets` if there are no facets,
-    /// - `OutOfRange` if a multiplied coordinate is more than `COORDINATE_LIMIT` from 0,
-    /// - those of [`Screen::grid`].
-    pub fn place<A: Allocator>(
-        &self,
-        facets: Vec<Facet, A>,
-        layer_height: u32,
-    ) -> Result<(Vec<Facet, A>, Grid), ScreenFault>
-        requires { IsStep layer_height }
-        ensures found { IfOk result (λ found. IsPlacing self.now facets.items layer_height found.0.items found.1) }
-        ensures fault { IfErr result (IsNoPlacing self.now facets.items layer_height) }
+    /// `OutOfRange` exactly if a multiplied coordinate is more than `COORDINATE_LIMIT` from 0.
+    pub fn place<A: Allocator>(&self, facets: Vec<Facet, A>) -> Result<Vec<Facet, A>, ScreenFault>
+        ensures placed { IfOk result (λ placed. placed.items ≡ part_on_screen self.now facets.items) }
+        ensures reach { OnOk result (IsInReach (part_on_screen self.now facets.items)) }
+        ensures fault { IfErr result (λ fault. (fault ≡ OutOfRange) × (IsInReach (part_on_screen self.now facets.items) → ⊥)) }
     {
         let mut facets = facets;
-        if !self.put_all(facets.as_mut_slice()) {
-            return Err(ScreenFault::OutOfRange);
+        if self.put_all(facets.as_mut_slice()) {
+            Ok(facets)
+        } else {
+            Err(ScreenFault::OutOfRange)
         }
-        let grid = self.grid_of_part(facets.as_slice(), layer_height)?;
-        Ok((facets, grid))
     }
 
-    /// The grid of facets that are on the screen.
-    fn grid_of_part(&self, placed: &[Facet], layer_height: u32) -> Result<Grid, ScreenFault>
+    /// The grid of a solid that stands on this screen, by the bounding box of its facets, as of [`Screen::grid`], with this layer
+    /// height (micrometres, 1 to `STEP_LIMIT`).
+    ///
+    /// # Errors
+    /// `NoFacets` exactly if the solid has no facets, else those of [`Screen::grid`].
+    pub fn grid_of<A: Allocator>(
+        &self,
+        solid: &Solid<A>,
+        layer_height: u32,
+    ) -> Result<Grid, ScreenFault>
         requires { IsStep layer_height }
-        ensures found { IfOk result (IsGridOfPart self.now placed.now layer_height) }
-        ensures fault { IfErr result (IsNoGridOfPart self.now placed.now layer_height) }
+        ensures found { IfOk result (IsGridOfPart self.now solid.now.facets layer_height) }
+        ensures fault { IfErr result (IsNoGridOfPart self.now solid.now.facets layer_height) }
     {
-        match extent(placed) {
+        match solid.corners() {
             None => Err(ScreenFault::NoFacets),
             Some((low, high)) => self.grid(low, high, layer_height),
         }
@@ -94,6 +98,20 @@ impl Screen {
             p.z(),
         )
     }
+
+    /// The point of a part that stands at `placed` on this screen, where one does.
+    pub fn point_at(&self, placed: Point) -> Point
+        requires { (p : PointModel) × (on_screen self.now p ≡ placed) }
+        ensures { on_screen self.now result ≡ placed }
+    {
+        let x = quotient(placed.x(), self.times_x);
+        let y = quotient(placed.y(), self.times_y);
+        let (x, y) = turned(self.turn.back(), x, y);
+        let Some(p) = Point::new(x, y, placed.z()) else {
+            unreachable!()
+        };
+        p
+    }
 }
 
 /// x and y after a turn.
@@ -109,6 +127,17 @@ fn turned(turn: Quarters, x: i32, y: i32) -> (i32, i32)
         Quarters::Two => (-x, -y),
         Quarters::Three => (y, -x),
     }
+}
+
+/// The number of which a coordinate is so many times.
+fn quotient(coordinate: i32, times: u64) -> i32
+    requires range { IsAtMost COORDINATE_LIMIT coordinate }
+    requires some { 1 ≤ times }
+    requires whole { (number : ℤ) × (number *ℤ pos times ≡ coordinate) }
+    ensures value { result *ℤ pos times ≡ coordinate }
+    ensures range { IsAtMost COORDINATE_LIMIT result }
+{
+    ceil_div(i128::from(coordinate), i128::from(times)) as i32
 }
 
 /// The product of a coordinate and a number, or `None` if it does not fit its type, which has all coordinates.

@@ -1,6 +1,7 @@
 //! Turns by quarters, counterclockwise as seen from above.
 ghost use Rattle.std.specs.Prelude.{◌≡◌, ◌≤◌, MatchOption};
-ghost use Rattle.part_on_screen.specs.Turned.{quarters};
+ghost use Rattle.geometry.specs.Point.{Point};
+ghost use Rattle.part_on_screen.specs.Turned.{quarters, turned};
 
 /// By how many quarters a part is turned, counterclockwise as seen from above: x goes to y, and y goes to -x.
 #[derive(Clone, Copy, Debug, PartialEq, Eq)]
@@ -22,6 +23,18 @@ impl Quarters {
             2 => Some(Quarters::Two),
             3 => Some(Quarters::Three),
             _ => None,
+        }
+    }
+
+    /// The turn that takes this one back.
+    pub(crate) fn back(self) -> Quarters
+        ensures { (p : Point) → turned self (turned result p) ≡ p }
+    {
+        match self {
+            Quarters::Zero => Quarters::Zero,
+            Quarters::One => Quarters::Three,
+            Quarters::Two => Quarters::Two,
+            Quarters::Three => Quarters::One,
         }
     }
 }

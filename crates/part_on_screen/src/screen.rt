@@ -2,7 +2,7 @@
 ghost use Rattle.std.specs.Prelude.{◌≡◌, ◌≤◌, IfErr, IfOk};
 ghost use Rattle.geometry.specs.Limits.{IsStep};
 ghost use Rattle.geometry.specs.declared.limits.TheConstants.{COLUMN_LIMIT};
-ghost use Rattle.part_on_screen.specs.Screen.{IsNoScreen, IsScreenOf};
+ghost use Rattle.part_on_screen.specs.Screen.{IsNoScreen, IsScreen, IsScreenOf};
 
 use crate::pixel_side::{PixelSide, pitch_of};
 use crate::quarters::Quarters;
@@ -106,5 +106,21 @@ impl Screen {
         ensures step { IsStep result }
     {
         self.pitch
+    }
+
+    /// By what x and y of parts on this screen are multiplied.
+    pub fn times(&self) -> (u64, u64)
+        ensures x { result.0 ≡ self.now.times_x }
+        ensures y { result.1 ≡ self.now.times_y }
+    {
+        (self.times_x, self.times_y)
+    }
+
+    /// States the limits of every screen. A caller can use the clause. It does nothing at run time.
+    pub fn hold_limits(&self)
+        ensures { IsScreen self.now }
+    {
+        // wakes the invariant
+        let _columns = self.columns;
     }
 }

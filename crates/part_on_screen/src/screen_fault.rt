@@ -19,7 +19,7 @@ pub enum ScreenFault {
     NoSide,
     /// No whole number of micrometres up to `STEP_LIMIT` is a whole number of both sides of a pixel.
     NoPitch,
-    /// The part has no facets.
+    /// The part has no facets, but for degenerate ones.
     NoFacets,
     /// A multiplied coordinate of the part is more than `COORDINATE_LIMIT` from 0.
     OutOfRange,
@@ -54,7 +54,7 @@ impl Display for ScreenFault {
             ScreenFault::NoPitch => f.write_str(
                 "no whole number of micrometres up to 100000 is a multiple of both sides of a pixel",
             ),
-            ScreenFault::NoFacets => f.write_str("part has no facets"),
+            ScreenFault::NoFacets => f.write_str("no facet is left"),
             ScreenFault::OutOfRange => f.write_str("part too far from the origin for these pixels"),
             ScreenFault::DoesNotFit {
                 width,

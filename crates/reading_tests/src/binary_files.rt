@@ -3,6 +3,7 @@ ghost use Rattle.std.specs.Prelude.{◌<◌};
 
 use binary_stl::{
     Axis, BinaryFault, CoordinateFault, FACET_LIMIT, Facet, Point, Unit, is_binary, read_binary,
+    read_binary_at_most,
 };
 use short_memory::ShortMemory;
 use std::alloc::{AllocError, Allocator, Global};
@@ -96,7 +97,7 @@ fn the_allocation_fails(rt: HostRuntime) -> Result<(), Fail> {
 }
 
 /// Numbers with their coordinates.
-const NUMBERS: [(u32, Unit, Result<i32, CoordinateFault>); 16] = [
+const NUMBERS: [(u32, Unit, Result<i32, CoordinateFault>); 22] = [
     (0x8000_0000, Unit::Millimetre, Ok(0)),
     (0x0000_0001, Unit::Inch, Ok(0)),
     (0x007f_ffff, Unit::Millimetre, Ok(0)),
@@ -129,6 +130,16 @@ const NUMBERS: [(u32, Unit, Result<i32, CoordinateFault>); 16] = [
         Err(CoordinateFault::NotNumber),
     ),
     (0xff80_0001, Unit::Inch, Err(CoordinateFault::NotNumber)),
+    (0x3fc0_0000, Unit::Centimetre, Ok(15_000)),
+    (0x4648_0000, Unit::Centimetre, Ok(FARTHEST)),
+    (
+        0x4648_0001,
+        Unit::Centimetre,
+        Err(CoordinateFault::OutOfRange),
+    ),
+    (0x3d4e_d917, Unit::Metre, Ok(50_500)),
+    (0xc300_0000, Unit::Metre, Ok(-FARTHEST)),
+    (0xc300_0001, Unit::Metre, Err(CoordinateFault::OutOfRange)),
 ];
 
 /// The corner and the axis of each number of a facet.
@@ -245,6 +256,23 @@ fn one_facet_too_many(rt: HostRuntime) -> Result<(), Fail> {
     assert!(rt; is_binary(&bytes));
     let found = read_binary(rt.alloc(), &bytes, Unit::Millimetre).err();
     assert!(rt; found == Some(BinaryFault::TooMany { facets }));
+    Ok(())
+}
+
+/// A count may be as high as the caller's limit, whatever that is.
+#[test]
+fn limits(rt: HostRuntime) -> Result<(), Fail> {
+    let bytes = file(rt.alloc(), 4, &TETRAHEDRON)?;
+    let rows = [
+        (0, Err(BinaryFault::TooMany { facets: 4 })),
+        (3, Err(BinaryFault::TooMany { facets: 4 })),
+        (4, Ok(4)),
+        (u32::MAX, Ok(4)),
+    ];
+    for (limit, wanted) in rows {
+        let found = read_binary_at_most(rt.alloc(), &bytes, limit, Unit::Millimetre);
+        assert!(rt; found.map(|facets| facets.len()) == wanted);
+    }
     Ok(())
 }
 

@@ -81,6 +81,23 @@ fn inches(rt: HostRuntime) {
     }
 }
 
+#[test]
+fn centimetres_and_metres(rt: HostRuntime) {
+    let rows: [(&[u8], Unit, Result<i32, NumFault>); 8] = [
+        (b"1.5", Unit::Centimetre, Ok(15 * MILLIMETRE)),
+        (b"-0.00005", Unit::Centimetre, Ok(-1)),
+        (b"12800.00004", Unit::Centimetre, Ok(FARTHEST)),
+        (b"12800.00005", Unit::Centimetre, Err(NumFault::OutOfRange)),
+        (b"0.0505", Unit::Metre, Ok(50 * MILLIMETRE + 500)),
+        (b"5e-7", Unit::Metre, Ok(1)),
+        (b"-128.0000004", Unit::Metre, Ok(-FARTHEST)),
+        (b"128.0000005", Unit::Metre, Err(NumFault::OutOfRange)),
+    ];
+    for (word, unit, wanted) in rows {
+        assert!(rt; read_micro(word, unit) == wanted);
+    }
+}
+
 /// `front`, a row of one byte, and `back`.
 pub(crate) fn long_word(
     alloc: Global,
@@ -209,12 +226,16 @@ fn word_of(
     Ok(word)
 }
 
+/// Whether a word is read alike in each unit.
+fn is_read_alike_in_units(alloc: Global, word: &[u8]) -> bool {
+    let units = [Unit::Millimetre, Unit::Inch, Unit::Centimetre, Unit::Metre];
+    units.iter().all(|&unit| is_read_alike(alloc, word, unit))
+}
+
 /// Whether such a word is read alike in each unit.
 fn is_word_read_alike(alloc: Global, whole: usize, fraction: usize, tail: &[u8]) -> bool {
     match word_of(alloc, whole, fraction, tail) {
-        Ok(word) => {
-            is_read_alike(alloc, &word, Unit::Millimetre) && is_read_alike(alloc, &word, Unit::Inch)
-        }
+        Ok(word) => is_read_alike_in_units(alloc, &word),
         Err(AllocError) => false,
     }
 }
@@ -237,8 +258,7 @@ fn every_byte_at_every_place(rt: HostRuntime) {
         for byte in 0..=255 {
             let mut word = usual;
             word[place] = byte;
-            assert!(rt; is_read_alike(rt.alloc(), &word, Unit::Millimetre));
-            assert!(rt; is_read_alike(rt.alloc(), &word, Unit::Inch));
+            assert!(rt; is_read_alike_in_units(rt.alloc(), &word));
         }
     }
 }

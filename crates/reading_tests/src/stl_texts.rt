@@ -3,7 +3,7 @@ use micro_num::{NumFault, Unit};
 use short_memory::ShortMemory;
 use std::alloc::{AllocError, Allocator, Global};
 use stl_text::{Facet, Point, StlFault, TextReader, Word, read_stl, read_stl_at_most};
-use test_meshes::published::{FARTHEST, INCH};
+use test_meshes::published::{FARTHEST, INCH, MILLIMETRE};
 
 /// How the parts of a file are spelled.
 struct Style {
@@ -348,24 +348,31 @@ fn loud_cubes(alloc: Global) -> Result<Vec<u8>, AllocError> {
     Ok(loud)
 }
 
-/// Adds a cube in inches.
-fn put_inches(alloc: Global, list: &mut Vec<Worked>) -> Result<(), AllocError> {
+/// Adds a cube from -1 to 0.002 of a unit.
+fn put_cube_in(
+    alloc: Global,
+    list: &mut Vec<Worked>,
+    unit: Unit,
+    corners: &'static [(i32, i32)],
+) -> Result<(), AllocError> {
     let mut bytes = Vec::new(alloc);
     put_cube(&mut bytes, &PLAIN, b"-1", b"0.002")?;
     list.push(Worked {
         bytes,
         limit: ENOUGH,
-        unit: Unit::Inch,
-        answer: Ok(&[(-INCH, 51)]),
+        unit,
+        answer: Ok(corners),
     })?;
     Ok(())
 }
 
-/// Adds the file of a cube that ends after a loop, two cubes in capitals, and a cube in inches.
+/// Adds the file of a cube that ends after a loop, two cubes in capitals, and cubes in other units.
 fn put_cubes(alloc: Global, list: &mut Vec<Worked>) -> Result<(), AllocError> {
     put_short_cube(alloc, list)?;
     put(list, loud_cubes(alloc)?, ENOUGH, Ok(&[(0, 4), (2, 6)]))?;
-    put_inches(alloc, list)
+    put_cube_in(alloc, list, Unit::Inch, &[(-INCH, 51)])?;
+    put_cube_in(alloc, list, Unit::Centimetre, &[(-10 * MILLIMETRE, 20)])?;
+    put_cube_in(alloc, list, Unit::Metre, &[(-1_000 * MILLIMETRE, 2_000)])
 }
 
 /// Adds a text with a number of 256 digits.
@@ -425,7 +432,7 @@ fn all_answered(alloc: Global, list: &[Worked]) -> Result<(), usize> {
 fn worked_texts_have_their_answers(rt: HostRuntime) {
     match worked_texts(rt.alloc()) {
         Ok(list) => {
-            assert!(rt; list.len() == 35);
+            assert!(rt; list.len() == 37);
             assert!(rt; all_answered(rt.alloc(), list.as_slice()) == Ok(()));
         }
         Err(AllocError) => assert!(rt; false),

@@ -4,7 +4,7 @@ use crate::session_chunks::are_answers_same;
 use crate::sessions::{fitted, reads};
 use binary_stl::{Axis, BinaryFault, CoordinateFault};
 use geometry::Facet;
-use layer_session::{Session, SessionFault, Setup, read_file};
+use layer_session::{Session, SessionFault, Setup, read_file, read_file_at_most};
 use micro_num::Unit;
 use raster::Rule;
 use short_memory::ShortMemory;
@@ -238,6 +238,27 @@ fn a_count_that_lies(rt: HostRuntime) {
     for count in [0, 11, 13, u32::MAX] {
         assert!(rt; is_text(rt.alloc(), count) == Ok(true));
     }
+}
+
+/// How many facets a file has, if it may have so many.
+fn count_at_most(alloc: Global, bytes: &[u8], limit: u32) -> Result<usize, SessionFault> {
+    Ok(read_file_at_most(alloc, bytes, limit, Unit::Millimetre)?.len())
+}
+
+/// The twelve facets of a cube are too many for a lower limit, in either form.
+#[test]
+fn a_limit_of_the_caller(rt: HostRuntime) -> Result<(), Fail> {
+    let facets = facets_of(rt.alloc(), CUBE)?;
+    let bytes = binary_of(rt.alloc(), 12, facets.as_slice())?;
+    let text = text_of(rt.alloc(), CUBE)?;
+    let too_many = SessionFault::Binary(BinaryFault::TooMany { facets: 12 });
+    assert!(rt; count_at_most(rt.alloc(), &bytes, 11) == Err(too_many));
+    assert!(rt; count_at_most(rt.alloc(), text.as_bytes(), 11).is_err());
+    for limit in [12, u32::MAX] {
+        assert!(rt; count_at_most(rt.alloc(), &bytes, limit) == Ok(12));
+        assert!(rt; count_at_most(rt.alloc(), text.as_bytes(), limit) == Ok(12));
+    }
+    Ok(())
 }
 
 /// How many facets a file has, read in either form, and read as a text.

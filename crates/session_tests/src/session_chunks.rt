@@ -1,7 +1,7 @@
 //! Sessions of texts that are fed in chunks: the result is that of the whole text, however it is cut.
 ghost use Rattle.std.specs.Prelude.{◌<◌};
 
-use crate::sessions::fitted;
+use crate::sessions::{fitted, no_pitch};
 use layer_session::{Session, SessionFault, SessionReader, Setup};
 use raster::Rule;
 use short_memory::ShortMemory;
@@ -107,8 +107,7 @@ fn facet_count<A: Allocator + Copy + Send + Sync>(
 #[test]
 fn faults_in_chunks(rt: HostRuntime) {
     let alloc = rt.alloc();
-    let setup = fitted(1, Rule::NonZero);
-    let none = Setup { pitch: 0, ..setup };
+    let (setup, none) = (fitted(1, Rule::NonZero), no_pitch());
     let misread = b"solid\nendloop";
     assert!(rt; is_chopped_well(alloc, misread, &setup));
     assert!(rt; is_chopped_well(alloc, misread, &none));

@@ -4,7 +4,7 @@ ghost use Rattle.std.specs.Prelude.{◌≤◌};
 
 use build_book::{Job, Layer, slice_stripe};
 use contour::Loops;
-use layer_session::{Depth, Mirrors, Placing, Session, SessionFault, Setup};
+use layer_session::{Depth, Mirrors, Place, Placing, Session, SessionFault, Setup};
 use micro_num::Unit;
 use raster::{Counted, Grid, GridFault, Rule, write_layer};
 use short_memory::ShortMemory;
@@ -25,10 +25,12 @@ const EACH_RULE: [Rule; 3] = [Rule::EvenOdd, Rule::NonZero, Rule::Positive];
 pub(crate) fn fitted(size: u32, rule: Rule) -> Setup {
     Setup {
         unit: Unit::Millimetre,
-        pitch: size,
         layer: size,
         rule,
-        placing: Placing::Fitted,
+        place: Place::Grid {
+            pitch: size,
+            placing: Placing::Fitted,
+        },
     }
 }
 
@@ -57,7 +59,7 @@ fn image_of(alloc: Global, job: &Job<Global>, k: u32) -> Option<Vec<u8, Global>>
 }
 
 /// Whether a layer of a session has this image.
-fn is_image(session: &Session<Global>, k: u32, image: &[u8]) -> bool {
+pub(crate) fn is_image(session: &Session<Global>, k: u32, image: &[u8]) -> bool {
     match session.image(k) {
         Ok(found) => found.as_slice() == image,
         Err(_) => false,
@@ -297,13 +299,14 @@ fn a_degenerate_facet_is_counted(rt: HostRuntime) {
 /// A setup of voxels of a micrometre in a grid of this many columns, rows and layers, from a corner on.
 fn given([columns, rows, layers]: [u32; 3], [x, y, z]: [i32; 3]) -> Option<Setup> {
     let origin = Point::new(x, y, z)?;
+    let placing = Placing::Given {
+        columns,
+        rows,
+        layers,
+        origin,
+    };
     Some(Setup {
-        placing: Placing::Given {
-            columns,
-            rows,
-            layers,
-            origin,
-        },
+        place: Place::Grid { pitch: 1, placing },
         ..fitted(1, Rule::NonZero)
     })
 }
@@ -333,13 +336,21 @@ const STEP: &str = "pitch and layer height take 1 to 100000 micrometres";
 
 const OPEN_EDGE: &str = "open edge 0 0 0 to 0 2 0 there 0 back 1";
 
+/// A setup with no pitch.
+pub(crate) fn no_pitch() -> Setup {
+    let placing = Placing::Fitted;
+    Setup {
+        place: Place::Grid { pitch: 0, placing },
+        ..fitted(1, Rule::NonZero)
+    }
+}
+
 /// The step goes before the mesh.
 #[test]
 fn faults_of_steps_read_as_the_program_s(rt: HostRuntime) {
     let open_box: &[Part] = &[(CORNERS, &BOX[1..])];
     let setup = fitted(1, Rule::NonZero);
-    let none = Setup { pitch: 0, ..setup };
-    assert!(rt; fails_with(rt.alloc(), CUBE, &none, STEP));
+    assert!(rt; fails_with(rt.alloc(), CUBE, &no_pitch(), STEP));
     let coarse = Setup {
         layer: GREATEST_STEP + 1,
         ..setup

@@ -258,14 +258,15 @@ fn facet_by_layout<'t>(
     ensures some { IfSome result (λ found. 0 < length found.1.now) }
     ensures shorter { IfSome result (λ found. length found.1.now < length bytes.now) }
 {
-    // Each arm is compiled for its unit, so none of a facet's nine numbers tests it.
+    // The first two arms are compiled for their unit, so none of a facet's nine numbers tests it.
     match unit {
         Unit::Millimetre => facet_in_unit(bytes, Unit::Millimetre, layout),
         Unit::Inch => facet_in_unit(bytes, Unit::Inch, layout),
+        Unit::Centimetre | Unit::Metre => facet_in_unit(bytes, unit, layout),
     }
 }
 
-/// `facet_by_layout`, compiled anew for each unit that it is called with.
+/// `facet_by_layout`, compiled anew for each call.
 #[inline(always)]
 fn facet_in_unit<'t>(bytes: &'t [u8], unit: Unit, layout: &Layout<'_>) -> Option<(Facet, &'t [u8])>
     ensures read { IfSome result (λ found. rest_after unit (facet_tokens found.0) bytes.now ≡ Some found.1.now) }

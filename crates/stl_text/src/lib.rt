@@ -18,8 +18,7 @@
 //! assert!(rt; fault == Err(StlFault::Expected { word: Word::FacetOrEnd, at: 6 }));
 //! ```
 //!
-//! Units: a text's numbers are in millimetres or inches, as the caller says. Points are in whole micrometres. Offsets are in
-//! bytes, from 0.
+//! Units: a text's numbers are in the unit that the caller names. Points are in whole micrometres. Offsets are in bytes, from 0.
 #![tactic(auto)]
 
 mod chunk_parts;

@@ -1,5 +1,4 @@
 //! The facets of a text that is in memory as a whole: a [`TextReader`] that is fed once.
-ghost use Rattle.std.specs.Prelude.{◌≤◌};
 ghost use Rattle.stl_text.specs.Reading.{IsAnswerTo};
 ghost use Rattle.geometry.specs.declared.limits.TheConstants.{FACET_LIMIT};
 
@@ -15,7 +14,7 @@ use std::thread::Threads;
 ///
 /// A text is one or more solids: `solid` and a name up to the end of its line, any number of facets, `endsolid` and the rest of
 /// its line. Keywords are read in any case, and a normal is any three words. The text's numbers are in `unit`; points are in
-/// whole micrometres. `limit` is at most [`FACET_LIMIT`].
+/// whole micrometres.
 ///
 /// # Errors
 /// A text that does not read as facets has exactly one fault, which is returned unless memory runs out. It is at the first word
@@ -32,7 +31,6 @@ pub fn read_stl_at_most<A: Allocator + Copy + Send + Sync>(
     limit: u32,
     unit: Unit,
 ) -> Result<Vec<Facet, A>, StlFault>
-    requires { limit ≤ FACET_LIMIT }
     ensures { IsAnswerTo limit unit bytes.now result }
 {
     let mut reader = TextReader::new(alloc, limit, unit);
@@ -62,7 +60,6 @@ pub fn read_stl_by<R: Threads + Sync, A: Allocator + Copy + Send + Sync>(
     unit: Unit,
     workers: u32,
 ) -> Result<Vec<Facet, A>, StlFault>
-    requires { limit ≤ FACET_LIMIT }
     ensures { IsAnswerTo limit unit bytes.now result }
 {
     let mut reader = TextReader::new(alloc, limit, unit);

@@ -1,7 +1,6 @@
 //! The reader of a text that is fed in chunks. The bytes *ahead* are those of a chunk that it has not read yet.
 ghost use Rattle.std.specs.Prelude.{◌≡◌, ◌≢◌, ◌↔◌, ◌<◌, ◌≤◌, ◌+◌, ℕ, [], ◌∷◌, ◌++◌, All, List, IfErr, IfOk, IfSome, IsTrue, MatchResult, None, length};
 ghost use Rattle.geometry.specs.Facet.{Facet};
-ghost use Rattle.geometry.specs.declared.limits.TheConstants.{FACET_LIMIT};
 ghost use Rattle.micro_num.specs.declared.unit.Unit.{Unit as LengthUnit};
 ghost use Rattle.stl_text.specs.declared.stl_fault.StlFault.TheVariants.{Memory};
 ghost use Rattle.stl_text.specs.Text.{IsFaultOf, Reads};
@@ -16,7 +15,7 @@ use crate::scanning::{skip_line, skip_space, word_len};
 use crate::stage::{ReaderState, Stage, Step};
 use crate::stl_fault::StlFault;
 use crate::word::WORD_FRONT;
-use geometry::{FACET_LIMIT, Facet};
+use geometry::Facet;
 use micro_num::Unit;
 use std::alloc::Allocator;
 use std::marker::Model;
@@ -122,9 +121,8 @@ impl<A: Allocator> Model for TextReader<A> {
 }
 
 impl<A: Allocator + Copy> TextReader<A> {
-    /// A reader of a text that may have up to `limit` facets, at most [`FACET_LIMIT`]. Its numbers are in `unit`.
+    /// A reader of a text that may have up to `limit` facets. Its numbers are in `unit`.
     pub fn new(alloc: A, limit: u32, unit: Unit) -> TextReader<A>
-        requires { limit ≤ FACET_LIMIT }
         ensures { IsAfter limit unit [] result [] }
     {
         TextReader {

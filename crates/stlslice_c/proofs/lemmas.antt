@@ -2,3 +2,5 @@ pub mod Values
 pub mod Lending
 pub mod Walk
 pub mod Given
+pub mod Reading
+pub mod Fronts

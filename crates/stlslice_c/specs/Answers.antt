@@ -2,8 +2,10 @@
 use Rattle.std.specs.Prelude.{◌≡◌, ◌⊎◌, ◌<◌, ◌≤◌, ◌∷◌, ◌++◌, ◌+◌, ◌-◌, ℕ, List, length, drop, take, min, Option, Some, None, Ok, Err}
 use Rattle.geometry.specs.Facet.{Facet}
 use Rattle.geometry.specs.BoundingBox.{extent}
+use Rattle.geometry.specs.declared.limits.TheConstants.{FACET_LIMIT}
 use Rattle.micro_num.specs.declared.unit.Unit.{Unit as LengthUnit}
 use Rattle.raster.specs.Filler.{area_of}
+use Rattle.raster.specs.declared.rule.Rule.{Rule}
 use Rattle.layer_png.specs.declared.depth.Depth.{Depth}
 use Rattle.layer_png.specs.declared.mirrors.Mirrors.{Mirrors}
 use Rattle.build_book.specs.Job.{Job, stripe_count}
@@ -14,21 +16,23 @@ use Rattle.layer_session.specs.Setup.{HasSteps}
 use Rattle.layer_session.specs.declared.setup.Setup.{Setup}
 use Rattle.layer_session.specs.declared.session_fault.SessionFault.{SessionFault}
 use Rattle.layer_session.specs.declared.session_fault.SessionFault.TheVariants as fault
+use Rattle.stlslice_c.specs.declared.options.NoSetup.{NoSetup}
+use Rattle.stlslice_c.specs.declared.options.NoSetup.TheVariants as none
 use Rattle.stlslice_c.specs.declared.options.Options.{Options}
 use Rattle.stlslice_c.specs.declared.shape.Corners.{Corners}
 use Rattle.stlslice_c.specs.declared.shape.Rays.{Rays}
 use Rattle.stlslice_c.specs.declared.shape.Shape.{Shape}
 use Rattle.stlslice_c.specs.declared.status.TheConstants.{DONE, MEMORY, NO_ROOM, OUT_OF_RANGE}
-use Rattle.stlslice_c.specs.Options.{IsSetup, depth_numbered, mirrors_numbered, unit_numbered}
+use Rattle.stlslice_c.specs.Options.{IsNoSetup, IsSetup, depth_numbered, mirrors_numbered, rule_numbered, unit_numbered}
 use Rattle.stlslice_c.specs.Shape.{corners_told, shape_told}
 use Rattle.stlslice_c.specs.Status.{status_of, status_text}
 
--- These bytes stand at the front of a buffer, and the rest is as it was; or all of it is, if it is too small. Their number is
+-- These items stand at the front of a buffer, and the rest is as it was; or all of it is, if it is too small. Their number is
 -- put in both cases.
-abbrev pub IsPutInFront : List ℕ → List ℕ → List ℕ → ℕ → ℕ → Type 0
-IsPutInFront bytes old new wanted status = (wanted ≡ length bytes)
-    × (((length bytes ≤ length old) × (new ≡ bytes ++ drop (length bytes) old) × (status ≡ DONE))
-    ⊎ ((length old < length bytes) × (new ≡ old) × (status ≡ NO_ROOM)))
+abbrev pub IsPutInFront : {X : Type 0} → List X → List X → List X → ℕ → ℕ → Type 0
+IsPutInFront items old new wanted status = (wanted ≡ length items)
+    × (((length items ≤ length old) × (new ≡ items ++ drop (length items) old) × (status ≡ DONE))
+    ⊎ ((length old < length items) × (new ≡ old) × (status ≡ NO_ROOM)))
 
 -- The bytes of number n, which is below the count, are put; or there is no memory for them, though they fit; or there is no
 -- such number. In the last two cases buffer and size are as they were.
@@ -70,12 +74,13 @@ IsAreaAnswer job k old new status =
     ⊎ ((k < job.grid.layers) × (new ≡ old) × (status ≡ MEMORY))
     ⊎ ((job.grid.layers ≤ k) × (new ≡ old) × (status ≡ OUT_OF_RANGE))
 
--- the numbers of filled pixels of as many layers, from layer `first` on, as there are places
-abbrev pub IsAreasAnswer : Job → ℕ → List ℕ → List ℕ → ℕ → Type 0
-IsAreasAnswer job first old new status =
-    ((first + length old ≤ job.grid.layers) × (new ≡ areas_of job first (length old)) × (status ≡ DONE))
+-- the numbers of pixels that a rule fills of as many layers, from layer `first` on, as there are places
+abbrev pub IsAreasAnswer : Job → ℕ → ℕ → List ℕ → List ℕ → ℕ → Type 0
+IsAreasAnswer job number first old new status =
+    ((rule : Rule) × (rule_numbered number ≡ Some rule) × (first + length old ≤ job.grid.layers)
+    × (new ≡ areas_of job rule first (length old)) × (status ≡ DONE))
     ⊎ ((first + length old ≤ job.grid.layers) × (new ≡ old) × (status ≡ MEMORY))
-    ⊎ ((job.grid.layers < first + length old) × (new ≡ old) × (status ≡ OUT_OF_RANGE))
+    ⊎ (((rule_numbered number ≡ None) ⊎ (job.grid.layers < first + length old)) × (new ≡ old) × (status ≡ OUT_OF_RANGE))
 
 abbrev pub IsProbeAnswer : Job → ℕ → ℕ → ℕ → Rays → Rays → ℕ → Type 0
 IsProbeAnswer job i j k old new status =
@@ -102,26 +107,27 @@ IsFaultLine (fault.Binary cause) old new = IsToldOrShort (fault.Binary cause) ol
 IsFaultLine (fault.Arrays cause) old new = IsToldOrShort (fault.Arrays cause) old new
 IsFaultLine (fault.Weld cause) old new = IsToldOrShort (fault.Weld cause) old new
 IsFaultLine (fault.Grid cause) old new = IsToldOrShort (fault.Grid cause) old new
+IsFaultLine (fault.Screen cause) old new = IsToldOrShort (fault.Screen cause) old new
 
 -- the number and the box of the facets that a file reads as
 pub record IsBoxed (unit : ℕ) (bytes : List ℕ) (told : Corners) : Type 0 where
   pub meant : LengthUnit
   pub facets : List Facet
   pub means : unit_numbered unit ≡ Some meant
-  pub reads : ReadsFile meant bytes facets
+  pub reads : ReadsFile FACET_LIMIT meant bytes facets
   pub box : told ≡ corners_told (length facets) (extent facets)
 
--- a number that is no unit's, or the fault of the file, with its line
-abbrev pub IsUnboxed : ℕ → List ℕ → List ℕ → List ℕ → ℕ → Type 0
-IsUnboxed unit bytes before after status =
+-- a number that is no unit's, or the fault of the file, of which so many facets are read, with its line
+abbrev pub IsUnread : ℕ → ℕ → List ℕ → List ℕ → List ℕ → ℕ → Type 0
+IsUnread limit unit bytes before after status =
     ((unit_numbered unit ≡ None) × (status ≡ OUT_OF_RANGE) × IsLine (status_text OUT_OF_RANGE) before after)
     ⊎ ((meant : LengthUnit) × (fault : SessionFault) × (unit_numbered unit ≡ Some meant)
-    × IsFaultOfFile meant bytes fault × (status ≡ status_of fault) × IsFaultLine fault before after)
+    × IsFaultOfFile limit meant bytes fault × (status ≡ status_of fault) × IsFaultLine fault before after)
 
 -- the box, and no line; or else the line, and no box
 abbrev pub IsBoxAnswer : ℕ → List ℕ → Corners → Corners → List ℕ → List ℕ → ℕ → Type 0
 IsBoxAnswer unit bytes old new before after status =
-    (IsBoxed unit bytes new × (after ≡ before) × (status ≡ DONE)) ⊎ ((new ≡ old) × IsUnboxed unit bytes before after status)
+    (IsBoxed unit bytes new × (after ≡ before) × (status ≡ DONE)) ⊎ ((new ≡ old) × IsUnread FACET_LIMIT unit bytes before after status)
 
 -- the session of a file or of arrays, and its shape
 pub record IsOpened (o : Options) (input : Input) (new : Option Session) (shape : Shape) : Type 0 where
@@ -136,10 +142,16 @@ pub record IsOpened (o : Options) (input : Input) (new : Option Session) (shape 
 abbrev pub IsStepFirst : Setup → SessionFault → Type 0
 IsStepFirst setup told = (HasSteps setup → ⊥) → told ≡ fault.Step
 
+-- The line of why options stand for no setup: that of the screen's fault, or that of the status.
+abbrev pub IsNoSetupLine : NoSetup → List ℕ → List ℕ → ℕ → Type 0
+IsNoSetupLine none.Number before after status = (status ≡ OUT_OF_RANGE) × IsLine (status_text OUT_OF_RANGE) before after
+IsNoSetupLine (none.Screen cause) before after status =
+    (status ≡ status_of (fault.Screen cause)) × IsFaultLine (fault.Screen cause) before after
+
 -- options that stand for no setup, or why no session is opened, with the line of that
 abbrev pub IsUnopened : Options → Input → List ℕ → List ℕ → ℕ → Type 0
 IsUnopened o input before after status =
-    (((setup : Setup) → IsSetup o setup → ⊥) × (status ≡ OUT_OF_RANGE) × IsLine (status_text OUT_OF_RANGE) before after)
+    ((reason : NoSetup) × IsNoSetup o reason × IsNoSetupLine reason before after status)
     ⊎ ((setup : Setup) × (fault : SessionFault) × IsSetup o setup × IsOpenFault setup input fault
     × IsStepFirst setup fault
     × (status ≡ status_of fault) × IsFaultLine fault before after)

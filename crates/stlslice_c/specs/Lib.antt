@@ -3,6 +3,7 @@ pub mod Shape
 pub mod Options
 pub mod Status
 pub mod Answers
+pub mod Facets
 pub mod Loops
 pub mod Pointers
 pub mod Calls

@@ -42,4 +42,8 @@ abbrev pub shape_told : Session → Shape
 shape_told s = record {
   corners = corners_told s.facet_count s.bounds;
   cells = cells_told s.job.grid;
+  pitch = s.job.grid.pitch;
+  layer = s.job.grid.layer_height;
+  times_x = s.times.0;
+  times_y = s.times.1;
 }

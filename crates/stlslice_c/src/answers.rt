@@ -2,7 +2,7 @@
 ghost use Rattle.stlslice_c.specs.Answers.{IsAreaAnswer, IsAreasAnswer, IsMaskAnswer, IsPngAnswer, IsProbeAnswer, IsStripeAnswer};
 
 use crate::buffers::{has_room, put, put_if_room};
-use crate::options::{depth_numbered, mirrors_numbered};
+use crate::options::{depth_numbered, mirrors_numbered, rule_numbered};
 use crate::shape::Rays;
 use crate::status::{DONE, NO_ROOM, OUT_OF_RANGE, Status, status_of};
 use layer_session::Session;
@@ -84,18 +84,22 @@ pub(crate) fn put_area<A: Allocator + Copy + Send + Sync>(
     }
 }
 
-/// Puts the numbers of filled pixels of the layers from `first` on, as many as there are places for.
+/// Puts the numbers of pixels that a rule fills of the layers from `first` on, as many as there are places for.
 pub(crate) fn put_areas<A: Allocator + Copy + Send + Sync>(
     session: &Session<A>,
+    rule: u32,
     first: u32,
     areas: &mut [u64],
 ) -> Status
-    ensures { IsAreasAnswer session.now.job first areas.old areas.new result }
+    ensures { IsAreasAnswer session.now.job rule first areas.old areas.new result }
 {
+    let Some(rule) = rule_numbered(rule) else {
+        return OUT_OF_RANGE;
+    };
     if areas.len() as u64 > u64::from(session.layers()) {
         return OUT_OF_RANGE;
     }
-    match session.areas(first, areas.len() as u32) {
+    match session.areas_by(rule, first, areas.len() as u32) {
         Ok(pixels) => {
             areas.copy_from_slice(pixels.as_slice());
             DONE

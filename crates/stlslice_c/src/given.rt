@@ -2,6 +2,7 @@
 //! that no object has. These are told by the slice's length.
 ghost use Rattle.std.specs.Prelude.{◌≡◌};
 ghost use Rattle.stlslice_c.specs.Calls.{IsAreaAnswered, IsAreaRefused, IsAreasAnswered, IsAreasRefused, IsBoxAnswered, IsBoxRefused, IsCloseAnswered};
+ghost use Rattle.stlslice_c.specs.Calls.{IsFacetsAnswered, IsFacetsRefused};
 ghost use Rattle.stlslice_c.specs.Calls.{IsCloseRefused, IsLoopsAnswered, IsLoopsRefused, IsMaskAnswered, IsMaskRefused};
 ghost use Rattle.stlslice_c.specs.Calls.{IsOpenAnswered, IsOpenMeshAnswered, IsOpenMeshRefused, IsOpenRefused};
 ghost use Rattle.stlslice_c.specs.Calls.{IsPngAnswered, IsPngRefused, IsProbeAnswered, IsProbeRefused, IsStripeAnswered};
@@ -15,7 +16,7 @@ use crate::shape::{Corners, Rays, Shape};
 use crate::status::{OUT_OF_RANGE, Status};
 use crate::{
     ask_area, ask_areas, ask_loops, ask_mask, ask_png, ask_probe, ask_stripe, close_handle,
-    open_arrays, open_file, put_text, read_box,
+    open_arrays, open_file, put_text, read_box, read_facets,
 };
 use std::alloc::Global;
 
@@ -56,7 +57,31 @@ pub(crate) fn box_of(
     read_box(alloc, text, unit, &mut corners[0], line)
 }
 
-/// Opens a text.
+/// Puts the facets of a file.
+pub(crate) fn facets(
+    alloc: Global,
+    text: &[u8],
+    text_size: usize,
+    unit: u32,
+    facets: &mut [[[i32; 3]; 3]],
+    facets_room: usize,
+    facets_count: &mut [usize],
+    line: &mut [u8],
+    line_room: usize,
+) -> Status
+    ensures refused { IsFacetsRefused text.now text_size unit facets.old facets.new facets_room facets_count.old facets_count.new
+        line.old line.new line_room result }
+    ensures answered { IsFacetsAnswered text.now text_size unit facets.old facets.new facets_room facets_count.old facets_count.new
+        line.old line.new line_room result }
+{
+    let no_buffer = facets.len() != facets_room || line.len() != line_room;
+    if no_buffer || text.len() != text_size || facets_count.len() == 0 {
+        return refused(line, line_room);
+    }
+    read_facets(alloc, text, unit, facets, &mut facets_count[0], line)
+}
+
+/// Opens a file.
 pub(crate) fn open(
     alloc: Global,
     text: &[u8],
@@ -123,44 +148,41 @@ pub(crate) fn close(alloc: Global, mesh: &mut [Handle])
 
 /// Puts the image of layer k.
 pub(crate) fn mask(
-    alloc: Global,
-    mesh: &mut [Handle],
+    mesh: &[Handle],
     k: u32,
     image: &mut [u8],
     image_room: usize,
     image_size: &mut [usize],
 ) -> Status
-    ensures refused { IsMaskRefused mesh.old mesh.new k image.old image.new image_room image_size.old image_size.new result }
-    ensures answered { IsMaskAnswered mesh.old mesh.new k image.old image.new image_room image_size.old image_size.new result }
+    ensures refused { IsMaskRefused mesh.now k image.old image.new image_room image_size.old image_size.new result }
+    ensures answered { IsMaskAnswered mesh.now k image.old image.new image_room image_size.old image_size.new result }
 {
     if mesh.len() == 0 || image.len() != image_room || image_size.len() == 0 {
         return OUT_OF_RANGE;
     }
-    ask_mask(alloc, &mut mesh[0], k, image, &mut image_size[0])
+    ask_mask(&mesh[0], k, image, &mut image_size[0])
 }
 
 /// Puts the images of stripe s.
 pub(crate) fn stripe(
-    alloc: Global,
-    mesh: &mut [Handle],
+    mesh: &[Handle],
     s: u64,
     images: &mut [u8],
     images_room: usize,
     images_size: &mut [usize],
 ) -> Status
-    ensures refused { IsStripeRefused mesh.old mesh.new s images.old images.new images_room images_size.old images_size.new result }
-    ensures answered { IsStripeAnswered mesh.old mesh.new s images.old images.new images_room images_size.old images_size.new result }
+    ensures refused { IsStripeRefused mesh.now s images.old images.new images_room images_size.old images_size.new result }
+    ensures answered { IsStripeAnswered mesh.now s images.old images.new images_room images_size.old images_size.new result }
 {
     if mesh.len() == 0 || images.len() != images_room || images_size.len() == 0 {
         return OUT_OF_RANGE;
     }
-    ask_stripe(alloc, &mut mesh[0], s, images, &mut images_size[0])
+    ask_stripe(&mesh[0], s, images, &mut images_size[0])
 }
 
 /// Puts the PNG of layer k.
 pub(crate) fn png(
-    alloc: Global,
-    mesh: &mut [Handle],
+    mesh: &[Handle],
     k: u32,
     depth: u32,
     mirrors: u32,
@@ -168,73 +190,58 @@ pub(crate) fn png(
     png_room: usize,
     png_size: &mut [usize],
 ) -> Status
-    ensures refused { IsPngRefused mesh.old mesh.new k depth mirrors png.old png.new png_room png_size.old png_size.new result }
-    ensures answered { IsPngAnswered mesh.old mesh.new k depth mirrors png.old png.new png_room png_size.old png_size.new result }
+    ensures refused { IsPngRefused mesh.now k depth mirrors png.old png.new png_room png_size.old png_size.new result }
+    ensures answered { IsPngAnswered mesh.now k depth mirrors png.old png.new png_room png_size.old png_size.new result }
 {
     if mesh.len() == 0 || png.len() != png_room || png_size.len() == 0 {
         return OUT_OF_RANGE;
     }
-    ask_png(
-        alloc,
-        &mut mesh[0],
-        k,
-        depth,
-        mirrors,
-        png,
-        &mut png_size[0],
-    )
+    ask_png(&mesh[0], k, depth, mirrors, png, &mut png_size[0])
 }
 
 /// Puts the number of filled pixels of layer k.
-pub(crate) fn area(alloc: Global, mesh: &mut [Handle], k: u32, area: &mut [u64]) -> Status
-    ensures refused { IsAreaRefused mesh.old mesh.new k area.old area.new result }
-    ensures answered { IsAreaAnswered mesh.old mesh.new k area.old area.new result }
+pub(crate) fn area(mesh: &[Handle], k: u32, area: &mut [u64]) -> Status
+    ensures refused { IsAreaRefused mesh.now k area.old area.new result }
+    ensures answered { IsAreaAnswered mesh.now k area.old area.new result }
 {
     if mesh.len() == 0 || area.len() == 0 {
         return OUT_OF_RANGE;
     }
-    ask_area(alloc, &mut mesh[0], k, &mut area[0])
+    ask_area(&mesh[0], k, &mut area[0])
 }
 
 /// Puts the numbers of filled pixels of layers in a row.
 pub(crate) fn areas(
-    alloc: Global,
-    mesh: &mut [Handle],
+    mesh: &[Handle],
+    rule: u32,
     first: u32,
     areas: &mut [u64],
     count: usize,
 ) -> Status
-    ensures refused { IsAreasRefused mesh.old mesh.new first areas.old areas.new count result }
-    ensures answered { IsAreasAnswered mesh.old mesh.new first areas.old areas.new count result }
+    ensures refused { IsAreasRefused mesh.now rule first areas.old areas.new count result }
+    ensures answered { IsAreasAnswered mesh.now rule first areas.old areas.new count result }
 {
     if mesh.len() == 0 || areas.len() != count {
         return OUT_OF_RANGE;
     }
-    ask_areas(alloc, &mut mesh[0], first, areas)
+    ask_areas(&mesh[0], rule, first, areas)
 }
 
 /// Puts the crossings of the rays from the centre of a voxel.
-pub(crate) fn probe(
-    alloc: Global,
-    mesh: &mut [Handle],
-    i: u32,
-    j: u32,
-    k: u32,
-    rays: &mut [Rays],
-) -> Status
-    ensures refused { IsProbeRefused mesh.old mesh.new i j k rays.old rays.new result }
-    ensures answered { IsProbeAnswered mesh.old mesh.new i j k rays.old rays.new result }
+pub(crate) fn probe(mesh: &[Handle], i: u32, j: u32, k: u32, rays: &mut [Rays]) -> Status
+    ensures refused { IsProbeRefused mesh.now i j k rays.old rays.new result }
+    ensures answered { IsProbeAnswered mesh.now i j k rays.old rays.new result }
 {
     if mesh.len() == 0 || rays.len() == 0 {
         return OUT_OF_RANGE;
     }
-    ask_probe(alloc, &mut mesh[0], i, j, k, &mut rays[0])
+    ask_probe(&mesh[0], i, j, k, &mut rays[0])
 }
 
 /// Puts the loops of layer k.
 pub(crate) fn loops(
     alloc: Global,
-    mesh: &mut [Handle],
+    mesh: &[Handle],
     k: u32,
     points: &mut [LoopPoint],
     points_room: usize,
@@ -243,9 +250,9 @@ pub(crate) fn loops(
     ends_room: usize,
     loops_count: &mut [usize],
 ) -> Status
-    ensures refused { IsLoopsRefused mesh.old mesh.new k points.old points.new points_room points_count.old points_count.new
+    ensures refused { IsLoopsRefused mesh.now k points.old points.new points_room points_count.old points_count.new
         ends.old ends.new ends_room loops_count.old loops_count.new result }
-    ensures answered { IsLoopsAnswered mesh.old mesh.new k points.old points.new points_room points_count.old points_count.new
+    ensures answered { IsLoopsAnswered mesh.now k points.old points.new points_room points_count.old points_count.new
         ends.old ends.new ends_room loops_count.old loops_count.new result }
 {
     let no_buffer = points.len() != points_room || ends.len() != ends_room;
@@ -254,7 +261,7 @@ pub(crate) fn loops(
     }
     ask_loops(
         alloc,
-        &mut mesh[0],
+        &mesh[0],
         k,
         points,
         &mut points_count[0],

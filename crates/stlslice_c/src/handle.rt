@@ -6,6 +6,14 @@ use crate::mesh_pointer::MeshPointer;
 use layer_session::Session;
 use std::alloc::Global;
 
+/// What C sees of a handle: two words, of which it knows nothing. They are a [`Handle`], as contracts say.
+#[repr(C)]
+#[derive(Clone, Copy)]
+pub struct HandleWords {
+    is_open: bool,
+    at: *mut u8,
+}
+
 /// A handle: an open mesh, or none. One whose bytes are all 0 has none.
 #[repr(C)]
 #[derive(Drop)]
@@ -43,6 +51,17 @@ impl Handle {
         let Handle { is_open, mesh } = self;
         if is_open {
             Some(mesh.into_parts(alloc).into_box())
+        } else {
+            None
+        }
+    }
+
+    /// Its mesh, if there is one, to be read.
+    pub(crate) fn session(&self) -> Option<&Session<Global>>
+        ensures { option_map (λ session. session.now) result ≡ self.now.mesh.session }
+    {
+        if self.is_open {
+            Some(self.mesh.session())
         } else {
             None
         }

@@ -1,9 +1,10 @@
 //! Lines of text that end in 0, for C.
 ghost use Rattle.std.specs.Prelude.{◌≡◌};
-ghost use Rattle.stlslice_c.specs.Answers.{IsFaultLine, IsLine};
+ghost use Rattle.stlslice_c.specs.Answers.{IsFaultLine, IsLine, IsNoSetupLine};
 ghost use Rattle.stlslice_c.specs.Status.{status_of, status_text};
 
-use crate::status::{Status, status_of, status_text};
+use crate::options::NoSetup;
+use crate::status::{OUT_OF_RANGE, Status, status_of, status_text};
 use layer_session::SessionFault;
 use std::alloc::Allocator;
 
@@ -29,6 +30,16 @@ pub(crate) fn put_status(status: Status, line: &mut [u8]) -> Status
 {
     put_line(status_text(status), line);
     status
+}
+
+/// Puts why options stand for no setup, and returns its status.
+pub(crate) fn put_no_setup<A: Allocator>(alloc: A, reason: NoSetup, line: &mut [u8]) -> Status
+    ensures { IsNoSetupLine reason line.old line.new result }
+{
+    match reason {
+        NoSetup::Number => put_status(OUT_OF_RANGE, line),
+        NoSetup::Screen(cause) => put_fault(alloc, &SessionFault::Screen(cause), line),
+    }
 }
 
 /// Puts the text of a fault, and returns its status. The text is the program's if the program has such a fault.

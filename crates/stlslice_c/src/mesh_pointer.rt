@@ -16,12 +16,16 @@ pub struct MeshPointer {
 }
 
 impl Model for MeshPointer {
-    ghost use Rattle.stlslice_c.specs.MeshPointer.{owned, session_row, token};
+    ghost use Rattle.stlslice_c.specs.MeshPointer.{owned, seen, session_row, token};
 
     ghost also_owns = { λ m. owned token session_row m.at m.session };
+
+    ghost also_shares = { λ m _ κ. seen session_row m.at m.session κ };
 }
 
 unsafe impl Send for MeshPointer {}
+
+unsafe impl Sync for MeshPointer {}
 
 impl MeshPointer {
     /// No mesh.
@@ -39,6 +43,15 @@ impl MeshPointer {
     {
         let BoxParts { at, alloc: _ } = parts;
         MeshPointer { at: at as *mut u8 }
+    }
+
+    /// The mesh, to be read.
+    pub(crate) fn session(&self) -> &Session<Global>
+        requires { is_some self.now.session ≡ true }
+        ensures { self.now.session ≡ Some result.now }
+    {
+        let at = self.at as *const Session<Global>;
+        unsafe { &*at }
     }
 
     /// The `Box` again, taken apart.

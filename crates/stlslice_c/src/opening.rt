@@ -2,6 +2,7 @@
 ghost use Rattle.std.specs.Prelude.{◌≡◌, Err, IfErr, IfOk, List, Some, length};
 ghost use Rattle.geometry.specs.BoundingBox.{extent};
 ghost use Rattle.geometry.specs.Facet.{Facet};
+ghost use Rattle.geometry.specs.declared.limits.TheConstants.{FACET_LIMIT};
 ghost use Rattle.layer_session.specs.Setup.{HasSteps};
 ghost use Rattle.layer_session.specs.declared.session_fault.SessionFault.TheVariants.{Step};
 ghost use Rattle.layer_session.specs.Session.{IsFaultOfFile, IsOpenFault, IsSessionOf, ReadsFile, of_arrays, of_file};
@@ -24,9 +25,9 @@ pub(crate) fn read_corners<A: Allocator + Copy + Send + Sync>(
     bytes: &[u8],
     unit: Unit,
 ) -> Result<Corners, SessionFault>
-    ensures found { IfOk result (λ corners. (facets : List Facet) × ReadsFile unit bytes.now facets
+    ensures found { IfOk result (λ corners. (facets : List Facet) × ReadsFile FACET_LIMIT unit bytes.now facets
         × (corners ≡ corners_told (length facets) (extent facets))) }
-    ensures fault { IfErr result (IsFaultOfFile unit bytes.now) }
+    ensures fault { IfErr result (IsFaultOfFile FACET_LIMIT unit bytes.now) }
 {
     let facets = read_file(alloc, bytes, unit)?;
     Ok(corners_told(facets.len(), extent(facets.as_slice())))

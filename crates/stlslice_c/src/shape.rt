@@ -48,6 +48,14 @@ pub struct Cells {
 pub struct Shape {
     pub corners: Corners,
     pub cells: Cells,
+    /// A voxel along x and y; on a screen in multiplied units.
+    pub pitch: u32,
+    /// A voxel along z.
+    pub layer: u32,
+    /// By what x is multiplied on a screen; else 1.
+    pub times_x: u64,
+    /// By what y is multiplied on a screen; else 1.
+    pub times_y: u64,
 }
 
 /// The signed crossings of the mesh by the rays from a voxel's centre.
@@ -85,6 +93,7 @@ pub(crate) fn shape_told(session: &Session<Global>) -> Shape
 {
     let grid = session.grid();
     let origin = grid.origin();
+    let (times_x, times_y) = session.times();
     Shape {
         corners: corners_told(session.facet_count(), session.bounds()),
         cells: Cells {
@@ -95,5 +104,9 @@ pub(crate) fn shape_told(session: &Session<Global>) -> Shape
             origin_y: origin.y(),
             origin_z: origin.z(),
         },
+        pitch: grid.pitch(),
+        layer: grid.layer_height(),
+        times_x,
+        times_y,
     }
 }

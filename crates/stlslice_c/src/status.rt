@@ -1,8 +1,8 @@
 //! The statuses that calls return, and their texts.
 ghost use Rattle.std.specs.Prelude.{◌≡◌};
-ghost use Rattle.stlslice_c.specs.Status.{status_of, status_text};
+ghost use Rattle.stlslice_c.specs.Status.{screen_status, status_of, status_text};
 
-use layer_session::SessionFault;
+use layer_session::{ScreenFault, SessionFault};
 
 /// What a call returns: [`DONE`], or why not.
 pub(crate) type Status = u32;
@@ -32,6 +32,9 @@ pub(crate) const NO_ROOM: Status = 7;
 /// The handle has no mesh: none was opened, or it was closed.
 pub(crate) const NOT_OPEN: Status = 8;
 
+/// The part does not fit the screen.
+pub(crate) const NO_FIT: Status = 9;
+
 /// The status of a fault: the program's, but for what is out of range or outside the grid, and for arrays.
 pub(crate) fn status_of(fault: &SessionFault) -> Status
     ensures { result ≡ status_of fault.now }
@@ -41,7 +44,25 @@ pub(crate) fn status_of(fault: &SessionFault) -> Status
         SessionFault::Stl(_) | SessionFault::Binary(_) => TEXT,
         SessionFault::Weld(_) => OPEN_MESH,
         SessionFault::Grid(_) => GRID,
+        SessionFault::Screen(cause) => screen_status(cause),
         SessionFault::Memory => MEMORY,
+    }
+}
+
+/// The status of a fault of a screen, or of a part on it.
+fn screen_status(fault: &ScreenFault) -> Status
+    ensures { result ≡ screen_status fault.now }
+{
+    match fault {
+        ScreenFault::NoPixels
+        | ScreenFault::TooManyPixels { .. }
+        | ScreenFault::NoSide
+        | ScreenFault::NoPitch => OUT_OF_RANGE,
+        ScreenFault::DoesNotFit { .. } => NO_FIT,
+        ScreenFault::NoFacets
+        | ScreenFault::OutOfRange
+        | ScreenFault::ScreenOutOfRange
+        | ScreenFault::TooHigh { .. } => GRID,
     }
 }
 
@@ -58,6 +79,7 @@ pub(crate) fn status_text(status: Status) -> &'static [u8]
         MEMORY => b"out of memory",
         NO_ROOM => b"the buffer is too small",
         NOT_OPEN => b"no mesh was opened, or it was closed",
+        NO_FIT => b"the part does not fit the screen",
         _ => b"no status",
     }
 }

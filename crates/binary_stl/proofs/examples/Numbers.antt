@@ -2,7 +2,7 @@
 use Rattle.std.proofs.Common.{◌≡◌, refl}
 use Rattle.std.specs.Prelude.{Ok, Err, pos, negsuc}
 use Rattle.geometry.specs.declared.limits.TheConstants.{COORDINATE_LIMIT}
-use Rattle.micro_num.specs.declared.unit.Unit.TheVariants.{Millimetre, Inch}
+use Rattle.micro_num.specs.declared.unit.Unit.TheVariants.{Millimetre, Inch, Centimetre, Metre}
 use Rattle.binary_stl.specs.Single.{coordinate_of}
 use Rattle.binary_stl.specs.declared.binary_fault.CoordinateFault.TheVariants.{NotNumber, Infinite, OutOfRange}
 
@@ -51,6 +51,27 @@ inches_in_range = refl
 
 inches_out_of_range : coordinate_of Inch 0x459d_7af6 ≡ Err OutOfRange
 inches_out_of_range = refl
+
+centimetres : coordinate_of Centimetre 0x3fc0_0000 ≡ Ok (pos 15000)
+centimetres = refl
+
+-- the number nearest to 0.0505
+metres : coordinate_of Metre 0x3d4e_d917 ≡ Ok (pos 50500)
+metres = refl
+
+-- 12,800 cm, and the number after it
+centimetres_at_the_limit : coordinate_of Centimetre 0x4648_0000 ≡ Ok (pos COORDINATE_LIMIT)
+centimetres_at_the_limit = refl
+
+centimetres_beyond_the_limit : coordinate_of Centimetre 0x4648_0001 ≡ Err OutOfRange
+centimetres_beyond_the_limit = refl
+
+-- 128 m, and the number after it
+metres_at_the_limit : coordinate_of Metre 0x4300_0000 ≡ Ok (pos COORDINATE_LIMIT)
+metres_at_the_limit = refl
+
+metres_beyond_the_limit : coordinate_of Metre 0x4300_0001 ≡ Err OutOfRange
+metres_beyond_the_limit = refl
 
 -- the greatest finite number
 greatest : coordinate_of Millimetre 0x7f7f_ffff ≡ Err OutOfRange

@@ -11,7 +11,7 @@ use Rattle.exact_int.proofs.lemmas.Sizes.{back_of}
 use Rattle.geometry.specs.declared.limits.TheConstants.{COORDINATE_LIMIT}
 use Rattle.micro_num.specs.Micrometres.{is_coordinate, nearest}
 use Rattle.micro_num.specs.declared.unit.Unit.{Unit as LengthUnit}
-use Rattle.micro_num.specs.declared.unit.Unit.TheVariants.{Millimetre, Inch}
+use Rattle.micro_num.specs.declared.unit.Unit.TheVariants.{Millimetre, Inch, Centimetre, Metre}
 use Rattle.binary_stl.specs.Single.{Single, coordinate_of, coordinate_or_fault, exponent_field, finite, fraction_field, infinite, is_negative, micro, micrometres_in, multiple, nearest_to, not_a_number, signed, single_coordinate, single_of}
 use Rattle.binary_stl.specs.declared.binary_fault.CoordinateFault.{CoordinateFault}
 use Rattle.binary_stl.specs.declared.binary_fault.CoordinateFault.TheVariants.{OutOfRange}
@@ -74,6 +74,8 @@ coordinate_is unit bits m (Some z) is same within value =
 thousand : (unit : LengthUnit) → 1000 ≤ micrometres_in unit
 thousand Millimetre = lit≤ tt
 thousand Inch = lit≤ tt
+thousand Centimetre = lit≤ tt
+thousand Metre = lit≤ tt
 
 multiple-far : (e f : ℕ) → 150 ≤ e → 2 ^ 149 * 2 ^ 23 ≤ multiple e f
 multiple-far e f far =

@@ -31,23 +31,23 @@ same_facet unit bytes facet f g is js = λ i. record {
   c = same_corner unit bytes facet 2 f.c g.c is.third js.third i;
 }
 
-pub one_reading : (unit : LengthUnit) (bytes : List ℕ) (facets others : List Facet) → ReadsBinary unit bytes facets → ReadsBinary unit bytes others → facets ≡ others
-one_reading unit bytes facets others is js =
+pub one_reading : (limit : ℕ) (unit : LengthUnit) (bytes : List ℕ) (facets others : List Facet) → ReadsBinary limit unit bytes facets → ReadsBinary limit unit bytes others → facets ≡ others
+one_reading limit unit bytes facets others is js =
     same_lists facets others (is.count ∙ sym js.count)
     (λ k none inside. same_facet unit bytes k (slice_index_or facets k none) (slice_index_or others k none)
     (is.each k none inside) (js.each k none (omega (arith, is.count, js.count, inside))))
 
 -- ---- faults
-pub not_both : (unit : LengthUnit) (bytes : List ℕ) (facets : List Facet) (f : BinaryFault) → ReadsBinary unit bytes facets → IsFaultOfBinary unit bytes f → ⊥
-not_both unit bytes facets fault.Ended is short = let form = is.form in omega (arith, form, short)
-not_both unit bytes facets (fault.Length n wanted found) is (whole, same, takes, there, other) =
+pub not_both : (limit : ℕ) (unit : LengthUnit) (bytes : List ℕ) (facets : List Facet) (f : BinaryFault) → ReadsBinary limit unit bytes facets → IsFaultOfBinary limit unit bytes f → ⊥
+not_both limit unit bytes facets fault.Ended is short = let form = is.form in omega (arith, form, short)
+not_both limit unit bytes facets (fault.Length n wanted found) is (whole, same, takes, there, other) =
     other (takes ∙ ap length_of same ∙ sym is.form ∙ sym there)
-not_both unit bytes facets (fault.TooMany n) is (form, same, many) = let few = is.few in omega (arith, few, same, many)
-not_both unit bytes facets (fault.Number cause n corner axis) is (r, at) =
+not_both limit unit bytes facets (fault.TooMany n) is (form, same, many) = let few = is.few in omega (arith, few, same, many)
+not_both limit unit bytes facets (fault.Number cause n corner axis) is (r, at) =
     let inside : n < length facets = omega (arith, is.count, r.of_facet) in
     no_fault (coordinate_at unit bytes n corner (axis_number axis)) cause
     (facet_is_ok unit bytes n (slice_index_or facets n some_facet) (is.each n some_facet inside) corner r.of_corner (axis_number axis) (axis_few axis)) at
-not_both unit bytes facets fault.Memory is js = js
+not_both limit unit bytes facets fault.Memory is js = js
 
 same_axis : (a b : Axis) → axis_number a ≡ axis_number b → a ≡ b
 same_axis X X e = refl
@@ -61,9 +61,9 @@ same_axis Z Y e = absurd (omega (arith, e))
 same_axis Z Z e = refl
 
 -- a reader comes to one number that stands for no coordinate
-module _ (unit : LengthUnit) (bytes : List ℕ) (cause other : CoordinateFault) (n c m d : ℕ) (a b : Axis)
-    (r : Reaches unit bytes n c (axis_number a)) (at : coordinate_at unit bytes n c (axis_number a) ≡ Err cause)
-    (s : Reaches unit bytes m d (axis_number b)) (there : coordinate_at unit bytes m d (axis_number b) ≡ Err other) where
+module _ (limit : ℕ) (unit : LengthUnit) (bytes : List ℕ) (cause other : CoordinateFault) (n c m d : ℕ) (a b : Axis)
+    (r : Reaches limit unit bytes n c (axis_number a)) (at : coordinate_at unit bytes n c (axis_number a) ≡ Err cause)
+    (s : Reaches limit unit bytes m d (axis_number b)) (there : coordinate_at unit bytes m d (axis_number b) ≡ Err other) where
   same_number : coordinates_before n c (axis_number a) ≡ coordinates_before m d (axis_number b)
   same_number = by (cases_order (coordinates_before n c (axis_number a)) (coordinates_before m d (axis_number b)))
     where
@@ -91,33 +91,33 @@ module _ (unit : LengthUnit) (bytes : List ℕ) (cause other : CoordinateFault) 
       same_cause : (p q : Result ℤ CoordinateFault) → p ≡ q → p ≡ Err cause → q ≡ Err other → cause ≡ other
       same_cause p q e is js = cc
 
-pub one_fault : (unit : LengthUnit) (bytes : List ℕ) (f g : BinaryFault) → IsFaultOfBinary unit bytes f → IsFaultOfBinary unit bytes g → f ≡ g
-one_fault unit bytes fault.Ended fault.Ended is js = refl
-one_fault unit bytes fault.Ended (fault.Length n wanted found) is (whole, same, js, at, other) = absurd (omega (arith, is, whole))
-one_fault unit bytes fault.Ended (fault.TooMany n) is (form, js, many) = absurd (omega (arith, is, form))
-one_fault unit bytes fault.Ended (fault.Number cause n c a) is (r, js) = let form = r.form in absurd (omega (arith, is, form))
-one_fault unit bytes (fault.Length n wanted found) fault.Ended (whole, same, is, at, other) js = absurd (omega (arith, js, whole))
-one_fault unit bytes (fault.Length n wanted found) (fault.Length m takes there) (whole, same, is, at, other) (whole', same', js, at', other') =
+pub one_fault : (limit : ℕ) (unit : LengthUnit) (bytes : List ℕ) (f g : BinaryFault) → IsFaultOfBinary limit unit bytes f → IsFaultOfBinary limit unit bytes g → f ≡ g
+one_fault limit unit bytes fault.Ended fault.Ended is js = refl
+one_fault limit unit bytes fault.Ended (fault.Length n wanted found) is (whole, same, js, at, other) = absurd (omega (arith, is, whole))
+one_fault limit unit bytes fault.Ended (fault.TooMany n) is (form, js, many) = absurd (omega (arith, is, form))
+one_fault limit unit bytes fault.Ended (fault.Number cause n c a) is (r, js) = let form = r.form in absurd (omega (arith, is, form))
+one_fault limit unit bytes (fault.Length n wanted found) fault.Ended (whole, same, is, at, other) js = absurd (omega (arith, js, whole))
+one_fault limit unit bytes (fault.Length n wanted found) (fault.Length m takes there) (whole, same, is, at, other) (whole', same', js, at', other') =
     let count : n ≡ m = same ∙ sym same' in
     λ i. fault.Length (count i) ((is ∙ ap length_of count ∙ sym js) i) ((at ∙ sym at') i)
-one_fault unit bytes (fault.Length n wanted found) (fault.TooMany m) (whole, same, is, at, other) (form, js, many) =
+one_fault limit unit bytes (fault.Length n wanted found) (fault.TooMany m) (whole, same, is, at, other) (form, js, many) =
     absurd (other (is ∙ ap length_of same ∙ sym form ∙ sym at))
-one_fault unit bytes (fault.Length n wanted found) (fault.Number cause m c a) (whole, same, is, at, other) (r, js) =
+one_fault limit unit bytes (fault.Length n wanted found) (fault.Number cause m c a) (whole, same, is, at, other) (r, js) =
     absurd (other (is ∙ ap length_of same ∙ sym r.form ∙ sym at))
-one_fault unit bytes (fault.TooMany n) fault.Ended (form, is, many) js = absurd (omega (arith, js, form))
-one_fault unit bytes (fault.TooMany n) (fault.Length m wanted found) (form, is, many) (whole, same, js, at, other) =
+one_fault limit unit bytes (fault.TooMany n) fault.Ended (form, is, many) js = absurd (omega (arith, js, form))
+one_fault limit unit bytes (fault.TooMany n) (fault.Length m wanted found) (form, is, many) (whole, same, js, at, other) =
     absurd (other (js ∙ ap length_of same ∙ sym form ∙ sym at))
-one_fault unit bytes (fault.TooMany n) (fault.TooMany m) (form, is, many) (form', js, many') = ap fault.TooMany (is ∙ sym js)
-one_fault unit bytes (fault.TooMany n) (fault.Number cause m c a) (form, is, many) (r, js) =
+one_fault limit unit bytes (fault.TooMany n) (fault.TooMany m) (form, is, many) (form', js, many') = ap fault.TooMany (is ∙ sym js)
+one_fault limit unit bytes (fault.TooMany n) (fault.Number cause m c a) (form, is, many) (r, js) =
     let few = r.few in absurd (omega (arith, is, many, few))
-one_fault unit bytes (fault.Number cause n c a) fault.Ended (r, is) js = let form = r.form in absurd (omega (arith, js, form))
-one_fault unit bytes (fault.Number cause n c a) (fault.Length m wanted found) (r, is) (whole, same, js, at, other) =
+one_fault limit unit bytes (fault.Number cause n c a) fault.Ended (r, is) js = let form = r.form in absurd (omega (arith, js, form))
+one_fault limit unit bytes (fault.Number cause n c a) (fault.Length m wanted found) (r, is) (whole, same, js, at, other) =
     absurd (other (js ∙ ap length_of same ∙ sym r.form ∙ sym at))
-one_fault unit bytes (fault.Number cause n c a) (fault.TooMany m) (r, is) (form, js, many) =
+one_fault limit unit bytes (fault.Number cause n c a) (fault.TooMany m) (r, is) (form, js, many) =
     let few = r.few in absurd (omega (arith, js, many, few))
-one_fault unit bytes (fault.Number cause n c a) (fault.Number other m d b) (r, at) (s, there) = one_number unit bytes cause other n c m d a b r at s there
-one_fault unit bytes fault.Memory g is js = absurd is
-one_fault unit bytes fault.Ended fault.Memory is js = absurd js
-one_fault unit bytes (fault.Length n wanted found) fault.Memory is js = absurd js
-one_fault unit bytes (fault.TooMany n) fault.Memory is js = absurd js
-one_fault unit bytes (fault.Number cause n c a) fault.Memory is js = absurd js
+one_fault limit unit bytes (fault.Number cause n c a) (fault.Number other m d b) (r, at) (s, there) = one_number limit unit bytes cause other n c m d a b r at s there
+one_fault limit unit bytes fault.Memory g is js = absurd is
+one_fault limit unit bytes fault.Ended fault.Memory is js = absurd js
+one_fault limit unit bytes (fault.Length n wanted found) fault.Memory is js = absurd js
+one_fault limit unit bytes (fault.TooMany n) fault.Memory is js = absurd js
+one_fault limit unit bytes (fault.Number cause n c a) fault.Memory is js = absurd js

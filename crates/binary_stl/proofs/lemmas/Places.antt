@@ -7,7 +7,6 @@ use Rattle.std.proofs.lemmas.List.{get_or_append_left}
 use Rattle.std.proofs.Math.Seq.{get_or-append_seam}
 use Rattle.geometry.specs.Facet.{Facet, facet_with}
 use Rattle.geometry.specs.Point.{Point, origin}
-use Rattle.geometry.specs.declared.limits.TheConstants.{FACET_LIMIT}
 use Rattle.micro_num.specs.declared.unit.Unit.{Unit as LengthUnit}
 use Rattle.binary_stl.specs.Binary.{AreFirstFacets, IsBinary, IsCornerAt, IsFacetAt, IsFaultOfBinary, axis_number, coordinate_at, coordinates_before, facet_count}
 use Rattle.binary_stl.specs.Reading.{IsCornerFault, IsFacetFault}
@@ -108,10 +107,10 @@ facet_fault unit bytes facet corner (fault.Length facets wanted found) few earli
 facet_fault unit bytes facet corner (fault.TooMany facets) few earlier none = absurd none
 facet_fault unit bytes facet corner fault.Memory few earlier none = absurd none
 
-pub first_fault : (unit : LengthUnit) (bytes : List ℕ) (facets : List Facet) (f : BinaryFault) (m : ℕ) → length facets ≡ m
-    → IsBinary bytes → facet_count bytes ≤ FACET_LIMIT → m < facet_count bytes
-    → AreFirstFacets unit bytes facets → IsFacetFault unit bytes m f → IsFaultOfBinary unit bytes f
-first_fault unit bytes facets (fault.Number cause n k axis) m count form few inside each (same, few_k, before, at) = (
+pub first_fault : (limit : ℕ) (unit : LengthUnit) (bytes : List ℕ) (facets : List Facet) (f : BinaryFault) (m : ℕ) → length facets ≡ m
+    → IsBinary bytes → facet_count bytes ≤ limit → m < facet_count bytes
+    → AreFirstFacets unit bytes facets → IsFacetFault unit bytes m f → IsFaultOfBinary limit unit bytes f
+first_fault limit unit bytes facets (fault.Number cause n k axis) m count form few inside each (same, few_k, before, at) = (
   record {
     form = form;
     few = few;
@@ -131,7 +130,7 @@ first_fault unit bytes facets (fault.Number cause n k axis) m count form few ins
             let here : m ≡ g = omega (arith, h, less, same, few_k, axis_few axis) in
             subst (λ g. IsOk (coordinate_at unit bytes g c a)) here
             (before c a few_c few_a (omega (arith, h, less, same, few_k, axis_few axis)))
-first_fault unit bytes facets fault.Ended m count form few inside each none = absurd none
-first_fault unit bytes facets (fault.Length n wanted found) m count form few inside each none = absurd none
-first_fault unit bytes facets (fault.TooMany n) m count form few inside each none = absurd none
-first_fault unit bytes facets fault.Memory m count form few inside each none = absurd none
+first_fault limit unit bytes facets fault.Ended m count form few inside each none = absurd none
+first_fault limit unit bytes facets (fault.Length n wanted found) m count form few inside each none = absurd none
+first_fault limit unit bytes facets (fault.TooMany n) m count form few inside each none = absurd none
+first_fault limit unit bytes facets fault.Memory m count form few inside each none = absurd none

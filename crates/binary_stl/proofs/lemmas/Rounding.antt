@@ -6,7 +6,7 @@ use Rattle.std.proofs.lemmas.Nat.{mul-lt, pow-add, pow_pos}
 use Rattle.std.proofs.Math.Nat.{div-eq_of_lt, mul-div-mul_left, pow-le-pow_right, pow-succ'}
 use Rattle.micro_num.specs.Micrometres.{nearest}
 use Rattle.micro_num.specs.declared.unit.Unit.{Unit as LengthUnit}
-use Rattle.micro_num.specs.declared.unit.Unit.TheVariants.{Millimetre, Inch}
+use Rattle.micro_num.specs.declared.unit.Unit.TheVariants.{Millimetre, Inch, Centimetre, Metre}
 use Rattle.binary_stl.specs.Single.{micrometres_in, multiple}
 
 -- a factor of numerator and denominator
@@ -39,10 +39,10 @@ shifted n k limit some one small = by (cases_lt limit k)
         ∙ nearest-small n (2 ^ limit) small ∙ sym (nearest-small n (2 ^ k) (omega (arith, small, more)))
 
 -- s times 2 to the power t - 1, in parts of 2 to the power 149
-pub shifted_magnitude : (s f t k m : ℕ) → s < 2 ^ 24 → f < 2 ^ 15 → 1 ≤ t → 1 ≤ k → (t - 1) + k ≡ 149 → m ≡ min k 63
+pub shifted_magnitude : (s f t k m : ℕ) → s < 2 ^ 24 → f < 2 ^ 20 → 1 ≤ t → 1 ≤ k → (t - 1) + k ≡ 149 → m ≡ min k 63
     → (s * f + 2 ^ (m - 1)) / 2 ^ m ≡ nearest ((2 ^ (t - 1) * s) * f) (2 ^ 149)
 shifted_magnitude s f t k m few less one some all is =
-    let small : s * f < 2 ^ 39 = mul-lt s f (2 ^ 24) (2 ^ 15) few less in
+    let small : s * f < 2 ^ 44 = mul-lt s f (2 ^ 24) (2 ^ 20) few less in
     ap (λ m. (s * f + 2 ^ (m - 1)) / 2 ^ m) is
     ∙ shifted (s * f) k 63 some (lit≤ tt) (omega (arith, small))
     ∙ sym (nearest-factor (2 ^ (t - 1)) (s * f) (2 ^ k) (pow_pos (t - 1)))
@@ -54,9 +54,11 @@ shifted_magnitude s f t k m few less one some all is =
     powers : 2 ^ (t - 1) * 2 ^ k ≡ 2 ^ 149
     powers = sym (pow-add 2 (t - 1) k) ∙ ap (λ j. 2 ^ j) all
 
-pub micrometres_few : (unit : LengthUnit) → micrometres_in unit < 2 ^ 15
+pub micrometres_few : (unit : LengthUnit) → micrometres_in unit < 2 ^ 20
 micrometres_few Millimetre = lit< tt
 micrometres_few Inch = lit< tt
+micrometres_few Centimetre = lit< tt
+micrometres_few Metre = lit< tt
 
 -- the significand, which the least exponent but 0 does not shift
 pub subnormal : (e f s t : ℕ) → e ≡ 0 → s ≡ f → t ≡ max e 1 → 2 ^ (t - 1) * s ≡ multiple e f

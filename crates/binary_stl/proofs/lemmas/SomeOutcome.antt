@@ -6,7 +6,6 @@ use Rattle.std.proofs.lemmas.Bool.{cases_eq, cases_lt}
 use Rattle.std.proofs.lemmas.List.FromFn.{get_or-map-range_with_len, length-map-range_with_len}
 use Rattle.geometry.specs.Facet.{Facet, facet_with}
 use Rattle.geometry.specs.Point.{Point}
-use Rattle.geometry.specs.declared.limits.TheConstants.{FACET_LIMIT}
 use Rattle.micro_num.specs.declared.unit.Unit.{Unit as LengthUnit}
 use Rattle.binary_stl.specs.Binary.{IsBinary, IsCornerAt, IsFacetAt, IsFaultOfBinary, ReadsBinary, axis_number, coordinate_at, coordinates_before, facet_count, length_of}
 use Rattle.binary_stl.specs.declared.binary_fault.Axis.{Axis}
@@ -66,7 +65,7 @@ unfolding value
 is-value (Ok z) is = refl
 is-value (Err cause) is = cc
 
-module _ (unit : LengthUnit) (bytes : List ℕ) where
+module _ (limit : ℕ) (unit : LengthUnit) (bytes : List ℕ) where
   -- coordinate k, in the order of the bytes
   nth : ℕ → Found
   nth k = coordinate_at unit bytes (k / 9) (k / 3 % 3) (k % 3)
@@ -82,10 +81,10 @@ module _ (unit : LengthUnit) (bytes : List ℕ) where
       λ i. coordinate_at unit bytes (facet i) (corner i) (axis i)
 
   abbrev AFault : Type 0
-  AFault = (f : BinaryFault) × IsFaultOfBinary unit bytes f
+  AFault = (f : BinaryFault) × IsFaultOfBinary limit unit bytes f
 
   -- the first number that stands for no coordinate
-  number_fault : IsBinary bytes → facet_count bytes ≤ FACET_LIMIT → AFirst nth (9 * facet_count bytes) → AFault
+  number_fault : IsBinary bytes → facet_count bytes ≤ limit → AFirst nth (9 * facet_count bytes) → AFault
   unfolding nth
   number_fault form few (k, inside, (before, cause, failed)) =
       let facet : ℕ = k / 9 in
@@ -132,8 +131,8 @@ module _ (unit : LengthUnit) (bytes : List ℕ) where
     third = corner_is k 2 (λ a few. all 2 a (omega arith) few);
   }
 
-  facets : IsBinary bytes → facet_count bytes ≤ FACET_LIMIT → ((i : ℕ) → i < 9 * facet_count bytes → IsOk (nth i))
-      → (facets : List Facet) × ReadsBinary unit bytes facets
+  facets : IsBinary bytes → facet_count bytes ≤ limit → ((i : ℕ) → i < 9 * facet_count bytes → IsOk (nth i))
+      → (facets : List Facet) × ReadsBinary limit unit bytes facets
   facets form few all = (
     map facet_of (range_with_len 0 (facet_count bytes)),
     record {
@@ -149,22 +148,22 @@ module _ (unit : LengthUnit) (bytes : List ℕ) where
   )
 
   abbrev Outcome : Type 0
-  Outcome = ((facets : List Facet) × ReadsBinary unit bytes facets) ⊎ AFault
+  Outcome = ((facets : List Facet) × ReadsBinary limit unit bytes facets) ⊎ AFault
 
   pub either : Outcome
   either = by_length (cases_lt (length bytes) FACETS_START)
     where
-      by_numbers : IsBinary bytes → facet_count bytes ≤ FACET_LIMIT
+      by_numbers : IsBinary bytes → facet_count bytes ≤ limit
           → ((i : ℕ) → i < 9 * facet_count bytes → IsOk (nth i)) ⊎ AFirst nth (9 * facet_count bytes) → Outcome
       by_numbers form few (inl all) = inl (facets form few all)
       by_numbers form few (inr first) = inr (number_fault form few first)
 
-      by_count : IsBinary bytes → (FACET_LIMIT < facet_count bytes) ⊎ (facet_count bytes ≤ FACET_LIMIT) → Outcome
+      by_count : IsBinary bytes → (limit < facet_count bytes) ⊎ (facet_count bytes ≤ limit) → Outcome
       by_count form (inl many) = inr (fault.TooMany (facet_count bytes), (form, refl, many))
       by_count form (inr few) = by_numbers form few (search_first nth (9 * facet_count bytes))
 
       by_form : FACETS_START ≤ length bytes → (length bytes ≡ length_of (facet_count bytes)) ⊎ (length bytes ≡ length_of (facet_count bytes) → ⊥) → Outcome
-      by_form whole (inl form) = by_count form (cases_lt FACET_LIMIT (facet_count bytes))
+      by_form whole (inl form) = by_count form (cases_lt limit (facet_count bytes))
       by_form whole (inr other) =
           inr (
             fault.Length (facet_count bytes) (length_of (facet_count bytes)) (length bytes),

@@ -35,26 +35,27 @@ form bytes = by (length bytes) (length_of (facet_count bytes))
     by : (m n : ℕ) → (m ≡ n) ⊎ (m ≡ n → ⊥)
     by m n = grind arith
 
-one_file : (unit : LengthUnit) (bytes : List ℕ) (facets others : List Facet) → ReadsFile unit bytes facets → ReadsFile unit bytes others → facets ≡ others
-one_file unit bytes facets others (inl (fits, is)) (inl (fits', js)) = binary.one_reading unit bytes facets others is js
-one_file unit bytes facets others (inl (fits, is)) (inr (misfit, js)) = absurd (misfit fits)
-one_file unit bytes facets others (inr (misfit, is)) (inl (fits, js)) = absurd (misfit fits)
-one_file unit bytes facets others (inr (misfit, is)) (inr (misfit', js)) = reading.one_reading FACET_LIMIT unit bytes facets others is js
+one_file : (limit : ℕ) (unit : LengthUnit) (bytes : List ℕ) (facets others : List Facet) → ReadsFile limit unit bytes facets → ReadsFile limit unit bytes others → facets ≡ others
+one_file limit unit bytes facets others (inl (fits, is)) (inl (fits', js)) = binary.one_reading limit unit bytes facets others is js
+one_file limit unit bytes facets others (inl (fits, is)) (inr (misfit, js)) = absurd (misfit fits)
+one_file limit unit bytes facets others (inr (misfit, is)) (inl (fits, js)) = absurd (misfit fits)
+one_file limit unit bytes facets others (inr (misfit, is)) (inr (misfit', js)) = reading.one_reading limit unit bytes facets others is js
 
 -- the fault of a file is that of opening it
-pub file_fault : (setup : Setup) (bytes : List ℕ) (f : SessionFault) → HasSteps setup → IsFaultOfFile setup.unit bytes f → IsOpenFault setup (of_file bytes) f
+pub file_fault : (setup : Setup) (bytes : List ℕ) (f : SessionFault) → HasSteps setup → IsFaultOfFile FACET_LIMIT setup.unit bytes f → IsOpenFault setup (of_file bytes) f
 file_fault setup bytes fault.Step range is = absurd is
 file_fault setup bytes (fault.Stl cause) range is = (range, is)
 file_fault setup bytes (fault.Binary cause) range is = (range, is)
 file_fault setup bytes (fault.Arrays cause) range is = absurd is
 file_fault setup bytes (fault.Weld cause) range is = absurd is
 file_fault setup bytes (fault.Grid cause) range is = absurd is
+file_fault setup bytes (fault.Screen cause) range is = absurd is
 file_fault setup bytes fault.Memory range is = tt
 file_fault setup bytes (fault.Outside columns rows layers) range is = absurd is
 
 -- ---- any input
 pub one_reading : (setup : Setup) (input : Input) (facets others : List Facet) → IsReadAs setup input facets → IsReadAs setup input others → facets ≡ others
-one_reading setup (of_file bytes) facets others is js = one_file setup.unit bytes facets others is js
+one_reading setup (of_file bytes) facets others is js = one_file FACET_LIMIT setup.unit bytes facets others is js
 one_reading setup (of_text bytes) facets others is js = reading.one_reading FACET_LIMIT setup.unit bytes facets others is js
 one_reading setup (of_arrays points triangles) facets others is js = arrays.one_reading points triangles facets others is js
 
@@ -65,7 +66,7 @@ one_refusal setup (of_file bytes) f g (inl (cause, (misfit, h), is)) (inr (inl (
 one_refusal setup (of_file bytes) f g (inl (cause, h, is)) (inr (inr (other, k, js))) = absurd k
 one_refusal setup (of_file bytes) f g (inr (inl (cause, (fits, h), is))) (inl (other, (misfit, k), js)) = absurd (misfit fits)
 one_refusal setup (of_file bytes) f g (inr (inl (cause, (fits, h), is))) (inr (inl (other, (fits', k), js))) =
-    is ∙ ap (λ (x : BinaryFault). fault.Binary x) (binary.one_fault setup.unit bytes cause other h k) ∙ sym js
+    is ∙ ap (λ (x : BinaryFault). fault.Binary x) (binary.one_fault FACET_LIMIT setup.unit bytes cause other h k) ∙ sym js
 one_refusal setup (of_file bytes) f g (inr (inl (cause, h, is))) (inr (inr (other, k, js))) = absurd k
 one_refusal setup (of_file bytes) f g (inr (inr (cause, h, is))) is' = absurd h
 one_refusal setup (of_text bytes) f g (inl (cause, h, is)) (inl (other, k, js)) =
@@ -84,7 +85,7 @@ one_refusal setup (of_arrays points triangles) f g (inr (inr (cause, h, is))) (i
 pub not_both : (setup : Setup) (input : Input) (facets : List Facet) (f : SessionFault) → IsReadAs setup input facets → IsRefused setup input f → ⊥
 not_both setup (of_file bytes) facets f (inl (fits, reads)) (inl (cause, (misfit, h), is)) = misfit fits
 not_both setup (of_file bytes) facets f (inr (misfit, reads)) (inl (cause, (misfit', h), is)) = text.not_both FACET_LIMIT setup.unit bytes facets cause reads h
-not_both setup (of_file bytes) facets f (inl (fits, reads)) (inr (inl (cause, (fits', h), is))) = binary.not_both setup.unit bytes facets cause reads h
+not_both setup (of_file bytes) facets f (inl (fits, reads)) (inr (inl (cause, (fits', h), is))) = binary.not_both FACET_LIMIT setup.unit bytes facets cause reads h
 not_both setup (of_file bytes) facets f (inr (misfit, reads)) (inr (inl (cause, (fits, h), is))) = misfit fits
 not_both setup (of_file bytes) facets f reads (inr (inr (cause, h, is))) = h
 not_both setup (of_text bytes) facets f reads (inl (cause, h, is)) = text.not_both FACET_LIMIT setup.unit bytes facets cause reads h
@@ -101,7 +102,7 @@ abbrev Refused : Setup → Input → Type 0
 Refused setup input = (f : SessionFault) × IsRefused setup input f
 
 some_reading_of_file : (setup : Setup) (bytes : List ℕ) → IsBinary bytes ⊎ (IsBinary bytes → ⊥) → Read setup (of_file bytes) ⊎ Refused setup (of_file bytes)
-some_reading_of_file setup bytes (inl fits) = elim (binary_outcome setup.unit bytes) as (λ _. Read setup (of_file bytes) ⊎ Refused setup (of_file bytes)) [
+some_reading_of_file setup bytes (inl fits) = elim (binary_outcome FACET_LIMIT setup.unit bytes) as (λ _. Read setup (of_file bytes) ⊎ Refused setup (of_file bytes)) [
   | inl h ↦ inl (h.0, inl (fits, h.1))
   | inr h ↦ inr (fault.Binary h.0, inr (inl (h.0, (fits, h.1), refl)))
 ]

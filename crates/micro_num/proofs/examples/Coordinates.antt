@@ -1,7 +1,7 @@
 -- Worked texts, and the coordinates that they stand for.
 use Rattle.std.proofs.Common.{◌≡◌, ◌++◌, replicate, refl, ap, lit≤, ◌+◌, ◌-◌, ◌^◌}
 use Rattle.std.specs.Prelude.{Ok, Err, pos, negsuc, codes}
-use Rattle.micro_num.specs.declared.unit.Unit.TheVariants.{Millimetre, Inch}
+use Rattle.micro_num.specs.declared.unit.Unit.TheVariants.{Millimetre, Inch, Centimetre, Metre}
 use Rattle.micro_num.specs.declared.num_fault.NumFault.TheVariants.{NotNumber, TooLong, OutOfRange}
 use Rattle.micro_num.specs.Micrometres.{coordinate_of, coordinate_or_fault, magnitude, nearest}
 use Rattle.micro_num.proofs.lemmas.Magnitude.{magnitude-zero, magnitude_far, magnitude-near}
@@ -126,6 +126,38 @@ inches_rounded_to_the_limit = refl
 inches_beyond_the_limit : coordinate_of Inch (codes "5039.3701") ≡ Err OutOfRange
 unfolding magnitude
 inches_beyond_the_limit = refl
+
+centimetres : coordinate_of Centimetre (codes "1.5") ≡ Ok (pos 15000)
+unfolding magnitude
+centimetres = refl
+
+half_of_a_ten_thousandth_of_a_centimetre : coordinate_of Centimetre (codes "-0.00005") ≡ Ok (negsuc 0)
+unfolding magnitude
+half_of_a_ten_thousandth_of_a_centimetre = refl
+
+centimetres_rounded_to_the_limit : coordinate_of Centimetre (codes "12800.00004") ≡ Ok (pos COORDINATE_LIMIT)
+unfolding magnitude
+centimetres_rounded_to_the_limit = refl
+
+centimetres_beyond_the_limit : coordinate_of Centimetre (codes "12800.00005") ≡ Err OutOfRange
+unfolding magnitude
+centimetres_beyond_the_limit = refl
+
+metres : coordinate_of Metre (codes "0.0505") ≡ Ok (pos 50500)
+unfolding magnitude
+metres = refl
+
+half_of_a_millionth_of_a_metre : coordinate_of Metre (codes "5e-7") ≡ Ok (pos 1)
+unfolding magnitude
+half_of_a_millionth_of_a_metre = refl
+
+metres_rounded_to_the_limit : coordinate_of Metre (codes "128.0000004") ≡ Ok (pos COORDINATE_LIMIT)
+unfolding magnitude
+metres_rounded_to_the_limit = refl
+
+metres_beyond_the_limit : coordinate_of Metre (codes "128.0000005") ≡ Err OutOfRange
+unfolding magnitude
+metres_beyond_the_limit = refl
 
 zero_with_a_huge_exponent : coordinate_of Millimetre (codes "0e99999999999") ≡ Ok (pos 0)
 zero_with_a_huge_exponent = ap (λ n. coordinate_or_fault (pos n)) (magnitude-zero (pos 100000000002))

@@ -8,7 +8,7 @@ use Rattle.std.proofs.lemmas.List.Folds.{list_all-append}
 use Rattle.std.proofs.lemmas.Bool.{and_parts, cases_lt}
 use Rattle.std.proofs.Math.Nat.{pow-le-pow_right}
 use Rattle.micro_num.specs.declared.unit.Unit.{Unit as LengthUnit}
-use Rattle.micro_num.specs.declared.unit.Unit.TheVariants.{Millimetre, Inch}
+use Rattle.micro_num.specs.declared.unit.Unit.TheVariants.{Millimetre, Inch, Centimetre, Metre}
 use Rattle.micro_num.specs.declared.limits.TheConstants.{INCH_FACTOR, WORD_LIMIT}
 use Rattle.micro_num.specs.Micrometres.{unit_factor, unit_power}
 use Rattle.micro_num.specs.Scan.{IsLeading, IsCarry, digits_after}
@@ -73,9 +73,11 @@ module _ (w f : List ℕ) (j b : ℕ) (is : b ≡ min j (length f)) (few : j ≤
       subst (λ l. IsCarry (INCH_FACTOR * v + e) j (digits_after 0 l)) (sym parted.1)
       (subst (λ k. IsCarry (INCH_FACTOR * v + e) k (digits_after 0 (xs ++ ys))) size (IsCarry-all xs ys v e leading' digits' carry))
 
-pub power_small : (unit : LengthUnit) → unit_power unit ≤ 3
+pub power_small : (unit : LengthUnit) → unit_power unit ≤ 6
 power_small Millimetre = lit≤ tt
 power_small Inch = lit≤ tt
+power_small Centimetre = lit≤ tt
+power_small Metre = lit≤ tt
 
 pub times_below : (unit : LengthUnit) (n k : ℕ) → n < 10 ^ k → k ≤ WORD_LIMIT → unit_factor unit * n < 10 ^ 300
 times_below unit n k below few = by_unit unit
@@ -86,3 +88,5 @@ times_below unit n k below few = by_unit unit
     by_unit : (unit : LengthUnit) → unit_factor unit * n < 10 ^ 300
     by_unit Millimetre = omega (arith, more)
     by_unit Inch = omega (arith, more)
+    by_unit Centimetre = omega (arith, more)
+    by_unit Metre = omega (arith, more)

@@ -174,8 +174,8 @@ quotient a b n m e f = ap (λ k. k / n) e ∙ ap (λ k. b / k) f
 pub grid-on : (s : Screen) (low high : Point) (layer_height : ℕ) (x y : ℤ) (n : ℕ) (g : Grid) (o : Point)
     → g ≡ grid_with o s.pitch layer_height s.columns s.rows n → o ≡ point_at x y low.z → Fits s low high
     → IsInMiddle low.x high.x (screen_width s) x → IsInMiddle low.y high.y (screen_depth s) y → IsInRange (screen_width s) x → IsInRange (screen_depth s) y
-    → IsLayerCount low.z high.z layer_height n → IsGridOn s low high layer_height g
-grid-on s low high layer_height x y n g o e f fits middle_x middle_y range_x range_y layers =
+    → IsLayerCount low.z high.z layer_height n → n ≤ LAYER_LIMIT → IsGridOn s low high layer_height g
+grid-on s low high layer_height x y n g o e f fits middle_x middle_y range_x range_y layers few =
     subst (IsGridOn s low high layer_height) (sym (e ∙ ap (λ (p : Point). grid_with p s.pitch layer_height s.columns s.rows n) f))
     (record {
       columns = refl;
@@ -189,4 +189,5 @@ grid-on s low high layer_height x y n g o e f fits middle_x middle_y range_x ran
       range_y = range_y;
       first_layer = refl;
       layers = layers;
+      few_layers = few;
     })

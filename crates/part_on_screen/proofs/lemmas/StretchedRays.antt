@@ -10,11 +10,12 @@ use Rattle.geometry.specs.Facet.{Facet, facet_with, twice}
 use Rattle.geometry.specs.Winding.{determinant, hit, hit_y, left, left_x, ray, ray_y, turn, turn_of, turn_x, volume, wind, wind_y}
 use Rattle.part_on_screen.specs.Screen.{IsScreen, Screen}
 use Rattle.part_on_screen.specs.Stretched.{part_on_screen, stretched}
-use Rattle.part_on_screen.specs.Stands.{turned_facet, turned_part}
+use Rattle.raster.specs.Grid.{Grid, centre}
+use Rattle.part_on_screen.specs.Stands.{ray_at, stretched_part, turned_facet, turned_part}
 use Rattle.part_on_screen.proofs.lemmas.Places.{point-by}
 
 -- ---- signs
-same-test : (b c : Bool) → (b ≡ true → c ≡ true) → (c ≡ true → b ≡ true) → b ≡ c
+pub same-test : (b c : Bool) → (b ≡ true → c ≡ true) → (c ≡ true → b ≡ true) → b ≡ c
 same-test true c f g = sym (f refl)
 same-test false true f g = g refl
 same-test false false f g = refl
@@ -140,3 +141,42 @@ rays-along-y-stretch s (t ∷ facets) c is =
     first =
         ap (λ (u : Facet). hit_y u (stretched s.times_x s.times_y c)) (twice-stretched s.times_x s.times_y (turned_facet s.turn t))
         ∙ hit_y-kept s.times_x s.times_y (twice (turned_facet s.turn t)) c (some-of s.times_x is.times_x) (some-of s.times_y is.times_y)
+
+-- ---- rays from fractions
+pub rays-from-whole-points : (facets : List Facet) (x y z : ℤ) (m n : ℕ) → 1 ≤ m → 1 ≤ n
+    → ray_at facets (x *ℤ pos m) m (y *ℤ pos n) n z ≡ ray facets (record { x = x; y = y; z = z })
+rays-from-whole-points [] x y z m n some_m some_n = refl
+rays-from-whole-points (t ∷ facets) x y z m n some_m some_n = λ i. first i +ℤ rays-from-whole-points facets x y z m n some_m some_n i
+  where
+    c : Point
+    c = record { x = x; y = y; z = z }
+
+    first : hit (twice (stretched_facet m n t)) (stretched m n c) ≡ hit (twice t) c
+    first = ap (λ (u : Facet). hit u (stretched m n c)) (twice-stretched m n t) ∙ hit-kept m n (twice t) c (some-of m some_m) (some-of n some_n)
+
+twice-multiplied : (a m k : ℤ) → (a *ℤ m) *ℤ k ≡ (a *ℤ k) *ℤ m
+twice-multiplied a m k = identity (a ∷ m ∷ k ∷ []) (search reads depth 40) refl
+
+point-exchanged : (m n k l : ℕ) (p : Point) → stretched k l (stretched m n p) ≡ stretched m n (stretched k l p)
+point-exchanged m n k l p = point-by _ _ (twice-multiplied p.x (pos m) (pos k)) (twice-multiplied p.y (pos n) (pos l)) refl
+
+facet-exchanged : (m n k l : ℕ) (t : Facet) → stretched_facet k l (stretched_facet m n t) ≡ stretched_facet m n (stretched_facet k l t)
+facet-exchanged m n k l t = λ i. facet_with (point-exchanged m n k l t.a i) (point-exchanged m n k l t.b i) (point-exchanged m n k l t.c i)
+
+part-exchanged : (m n k l : ℕ) (facets : List Facet) → stretched_part k l (stretched_part m n facets) ≡ stretched_part m n (stretched_part k l facets)
+part-exchanged m n k l [] = refl
+part-exchanged m n k l (t ∷ facets) = λ i. facet-exchanged m n k l t i ∷ part-exchanged m n k l facets i
+
+pub rays-from-equal-points : (facets : List Facet) (x y z p q : ℤ) (m n k l : ℕ) → 1 ≤ m → 1 ≤ n → 1 ≤ k → 1 ≤ l
+    → x *ℤ pos k ≡ p *ℤ pos m → y *ℤ pos l ≡ q *ℤ pos n → ray_at facets x m y n z ≡ ray_at facets p k q l z
+rays-from-equal-points facets x y z p q m n k l some_m some_n some_k some_l e f =
+    sym (rays-from-whole-points (stretched_part m n facets) x y z k l some_k some_l)
+    ∙ (λ i. ray (part-exchanged m n k l facets i) (record { x = e i; y = f i; z = z }))
+    ∙ rays-from-whole-points (stretched_part k l facets) p q z m n some_m some_n
+
+pub pixels-have-true-centres : (s : Screen) (facets : List Facet) (g : Grid) (i j k : ℕ)
+    → ray (part_on_screen s facets) (centre g i j k)
+    ≡ ray_at (turned_part s.turn facets) (centre g i j k).x s.times_x (centre g i j k).y s.times_y (centre g i j k).z
+pixels-have-true-centres s [] g i j k = refl
+pixels-have-true-centres s (t ∷ facets) g i j k =
+    ap (λ (r : ℤ). hit (twice (stretched_facet s.times_x s.times_y (turned_facet s.turn t))) (centre g i j k) +ℤ r) (pixels-have-true-centres s facets g i j k)

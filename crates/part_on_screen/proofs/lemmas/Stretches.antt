@@ -1,12 +1,18 @@
 -- Facets that are put on a screen one after the other.
 use Rattle.std.proofs.Common.{◌≡◌, ℕ, zero, suc, ◌<◌, List, [], ◌∷◌, ◌++◌, map, take, drop, set, get_or, length, refl, ap, sym, ◌∙◌, arith}
-use Rattle.std.specs.Prelude.{ℤ, pos, ◌*ℤ◌}
+use Rattle.std.specs.Prelude.{ℤ, neg_ℤ, pos, ◌*ℤ◌}
 use Rattle.std.proofs.Math.Seq.{take-length, drop-length}
 use Rattle.std.proofs.lemmas.List.{append-nil}
-use Rattle.geometry.specs.Point.{Point}
+use Rattle.exact_int.specs.Bounds.{IsAtMost}
+use Rattle.exact_int.proofs.lemmas.Sizes.{neg_of}
+use Rattle.geometry.specs.Point.{IsMeshPoint, Point}
+use Rattle.geometry.specs.declared.limits.TheConstants.{COORDINATE_LIMIT}
+use Rattle.part_on_screen.specs.Screen.{Screen}
+use Rattle.part_on_screen.specs.Stretched.{on_screen, stretched}
 use Rattle.part_on_screen.specs.Turned.{turned}
 use Rattle.part_on_screen.specs.declared.quarters.Quarters.{Quarters}
 use Rattle.part_on_screen.specs.declared.quarters.Quarters.TheVariants.{Zero, One, Two, Three}
+use Rattle.part_on_screen.proofs.lemmas.Places.{point-by, point_at}
 
 -- one more element is replaced
 pub replaced : {X : Type 0} (f : X → X) (xs : List X) (i : ℕ) (d : X) → i < length xs
@@ -50,3 +56,22 @@ turned-z Three p = refl
 -- a product by its factors
 pub product : (a b : ℤ) (n m : ℕ) → a ≡ b → n ≡ m → a *ℤ pos n ≡ b *ℤ pos m
 product a b n m e f = ap (λ z. z *ℤ pos n) e ∙ ap (λ k. b *ℤ pos k) f
+
+-- the turned coordinates are in range
+negative-in-range : (z : ℤ) → IsAtMost COORDINATE_LIMIT z → IsAtMost COORDINATE_LIMIT (neg_ℤ z)
+negative-in-range z h = record { at_most = neg_of z COORDINATE_LIMIT h.at_most }
+
+pub turned-in-range : (t : Quarters) (p : Point) → IsMeshPoint p → IsMeshPoint (turned t p)
+turned-in-range Zero p h = h
+turned-in-range One p h = (negative-in-range p.y h.1, h.0, h.2)
+turned-in-range Two p h = (negative-in-range p.x h.0, negative-in-range p.y h.1, h.2)
+turned-in-range Three p h = (negative-in-range (neg_ℤ p.y) (negative-in-range p.y h.1), negative-in-range p.x h.0, h.2)
+
+-- a point that stands somewhere, by the quotients of its coordinates there and the turn back
+pub stood : (s : Screen) (t : Quarters) (a b x y z : ℤ) (p there : Point) → ((q : Point) → turned s.turn (turned t q) ≡ q)
+    → x ≡ (turned t (point_at a b z)).x → y ≡ (turned t (point_at a b z)).y → z ≡ there.z → p ≡ point_at x y z
+    → a *ℤ pos s.times_x ≡ there.x → b *ℤ pos s.times_y ≡ there.y → on_screen s p ≡ there
+stood s t a b x y z p there back at_x at_y at_z is along_x along_y =
+    ap (on_screen s) (is ∙ point-by (point_at x y z) (turned t (point_at a b z)) at_x at_y (sym (turned-z t (point_at a b z))))
+    ∙ ap (stretched s.times_x s.times_y) (back (point_at a b z))
+    ∙ point-by _ there along_x along_y at_z

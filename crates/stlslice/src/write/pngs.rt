@@ -1,7 +1,7 @@
 //! The output of `--png`: the PNGs of all layers, one after the other.
 ghost use Rattle.std.specs.Prelude.{◌≡◌, ◌≤◌, ◌+◌, ◌++◌, length, vec_capacity, vec_len};
 ghost use Rattle.layer_png.specs.Depth.{bits};
-ghost use Rattle.layer_png.specs.Layer.{shown};
+ghost use Rattle.layer_png.specs.Layer.{shown_in};
 ghost use Rattle.layer_png.specs.Text.{most_png_bytes, png_text};
 ghost use Rattle.devices.specs.Transcript.{transcript_of};
 ghost use Rattle.raster.specs.Span.{AreSpans};
@@ -84,7 +84,8 @@ pub(crate) fn add_png<A: Allocator>(
 ) -> Vec<u8, A>
     requires form { AreSpans grid.now.columns grid.now.rows spans.now }
     requires room { vec_len buffer + most_png_bytes (bits depth) grid.now.columns grid.now.rows (length spans.now) ≤ vec_capacity buffer }
-    ensures text { result.items ≡ buffer.items ++ png_text (bits depth) grid.now.columns grid.now.rows (shown mirrors grid.now.columns grid.now.rows spans.now) }
+    ensures text { result.items ≡ buffer.items
+        ++ png_text (bits depth) grid.now.columns grid.now.rows (shown_in grid.now mirrors spans.now) }
     ensures most { vec_len result ≤ vec_len buffer + most_png_bytes (bits depth) grid.now.columns grid.now.rows (length spans.now) }
     ensures capacity { vec_capacity buffer ≤ vec_capacity result }
 {

@@ -9,11 +9,11 @@ use Rattle.stlslice_c.specs.declared.shape.Shape.{Shape}
 use Rattle.stlslice_c.specs.declared.handle.Handle.{Handle}
 use Rattle.stlslice_c.specs.declared.status.TheConstants.{NOT_OPEN}
 
-pub asked_at : {X : Type 0} {given handle : Handle} {was x : X} (kept : Handle) (status : ℕ) (P : Job → X → Type 0) (S : X → Type 0) → given ≡ handle → was ≡ x
-    → kept.mesh.session ≡ given.mesh.session → ((session : Session) → given.mesh.session ≡ Some session → P session.job was) → (given.mesh.session ≡ None → (status ≡ NOT_OPEN) × S was)
-    → IsAsked handle kept status (λ job. P job x) (S x)
-asked_at {given = given} {x = x} kept status P S e f keeps opened closed =
-    subst (λ (h : Handle). IsAsked h kept status (λ job. P job x) (S x)) e (subst (λ z. IsAsked given kept status (λ job. P job z) (S z)) f (keeps, opened, closed))
+pub asked_at : {X : Type 0} {given handle : Handle} {was x : X} (status : ℕ) (P : Job → X → Type 0) (S : X → Type 0) → given ≡ handle → was ≡ x
+    → ((session : Session) → given.mesh.session ≡ Some session → P session.job was) → (given.mesh.session ≡ None → (status ≡ NOT_OPEN) × S was)
+    → IsAsked handle status (λ job. P job x) (S x)
+asked_at {given = given} {x = x} status P S e f opened closed =
+    subst (λ (h : Handle). IsAsked h status (λ job. P job x) (S x)) e (subst (λ z. IsAsked given status (λ job. P job z) (S z)) f (opened, closed))
 
 pub pairs : {X Y : Type 0} {a b : X} {c d : Y} → a ≡ b → c ≡ d → ◌≡◌ {A = X × Y} (a, c) (b, d)
 pairs {X} {Y} {a} {b} {c} {d} e f = subst (λ (z : Y). ◌≡◌ {A = X × Y} (a, c) (b, z)) f (subst (λ (z : X). ◌≡◌ {A = X × Y} (a, c) (z, c)) e refl)

@@ -1,5 +1,5 @@
 -- What C gives at a pointer and a number is lent to a call as a slice, and comes back. Assumes `Logic`.
-use Rattle.std.proofs.Common.{◌≡◌, ℕ, ◌<◌, ◌≤◌, ◌^◌, ◌*◌, ◌-◌, ◌/◌, List, [], ◌∷◌, length, ◌++◌, refl, sym, subst, ◌∙◌, ap, w64, MutBor, arith}
+use Rattle.std.proofs.Common.{◌≡◌, ℕ, ◌<◌, ◌≤◌, ◌^◌, ◌*◌, ◌-◌, ◌/◌, List, [], ◌∷◌, length, ◌++◌, refl, sym, subst, ◌∙◌, ap, w64, arith}
 use Rattle.std.proofs.Common.{◌⊎◌, inl, inr}
 use Rattle.std.specs.Prelude.{Bool, true, false, nat_le, if◌then◌else◌}
 use Rattle.std.proofs.lemmas.Bool.{leb-true}
@@ -11,22 +11,24 @@ use mir.Syntax.{named, ty_ptr}
 use lib.Dec.{T, lit<}
 use mir.Val.{Val, vint, has_ty, WT}
 use base.Logic.{SProp, ent, sep, emp, via, fst∗, comm∗, emp∗, id⊢}
-use base.Fml.{Fml, Lft, Share, GName, Incl-refl, ftrue, feq, fsep, flft, flent}
+use base.Fml.{Fml, Lft, Share, Incl-refl, ftrue, feq, fhide, fsep, flft, flent}
 use prog.Memory.{Memory}
 use prog.Routine.{Routine}
 use prog.Wp.{Calls}
 use types.Logic.{Logic, sem}
-use types.Kit.{Item, Goal, Soaks, Seq, Step, step, ‵, raw, ◌⊛◌, some, later, ◌$◌, ◌∵◌, !, qed, by, move, drop, use0, use1, use2, use3, split, join, pick, fsplit, fjoin, feq_l, feq_i, await, updating, now as at_once, done}
+use types.Kit.{Item, Goal, Soaks, Seq, Step, step, ‵, raw, ◌⊛◌, some, later, ◌$◌, ◌∵◌, !, qed, move, drop, use0, use1, use2, use3, split, join, pick, fsplit, fjoin, feq_l, feq_i, await, updating, now as at_once, done}
 use types.SemTy.{cells}
 use types.Share.{parts}
 use contract.Monad.{Fun, fact, fact_i}
 use sound.WpLaws.{FmC}
-use denote.RattleType.{RattleType}
+use denote.RattleType.{RattleType, RowLaws}
 use denote.Laws.{Is, shows}
 use denote.Memory.{mem, shares}
 use denote.Plain.{uint_Makes}
 use denote.Builtin.{usize}
-use denote.Slice.{MutSlice, ShrSlice, slice_val, Room, finally}
+use denote.Slice.{MutSlice, ShrSlice, slice_val, Room, elements_shared, elements_shr_laws, finally, shr_slice_at}
+use denote.Shadow.{pure_i}
+use denote.SharingLaws.{contraction}
 use denote.Lend.{Held, lends_slice, lends_shr_slice, slice_back}
 use denote.Copied.{Copied}
 use denote.RawPtr.{Ptr, block_ptr, null_ptr, block_of, count_of, at_block, ptr_val, rawptr_vals, InBlock, Testable}
@@ -35,7 +37,7 @@ use denote.Steps.{only, owned, peeks, heard, nothing}
 use denote.Triple.Statement.{Contract, Triple}
 use denote.Triple.Clauses.{lasts}
 use denote.Triple.Spec.{triple_of}
-use Rattle.stlslice_c.specs.Pointers.{count_at, lent, lent_shared, side_by_side, shared_side_by_side}
+use Rattle.stlslice_c.specs.Pointers.{count_at, lent, lent_shared, lent_to_read, seen_side_by_side, side_by_side, shared_side_by_side}
 use Rattle.stlslice_c.specs.contracts.places.place_of as placing
 use Rattle.stlslice_c.specs.contracts.places.Place.{the_row as Place}
 use Rattle.stlslice_c.proofs.places.Place.TheLaws.{lowers}
@@ -125,6 +127,19 @@ shared_side 𝓛 R s p null_ptr xs (inl e) = qed 𝓛 (‵ (shared_side_by_side 
 shared_side 𝓛 R s p (block_ptr b o) [] (inl e) = qed 𝓛 (‵ (shared_side_by_side R s p []) ∷ []) ∵ drop ! $ nothing ! $ done !
 shared_side 𝓛 R s p (block_ptr b o) (x ∷ xs) (inl e) = absurd (no_item x xs e)
 
+-- what a `&` has can be had twice, and stays at another pointer likewise
+module _ {M : Type 1} {𝓤 : Ura M} (𝓛 : Logic 𝓤) (R : RattleType) (laws : RowLaws R) (κ : Lft) where
+  pub seen_twice : (p : Ptr) (xs : List R.Denot)
+      → ent 𝓤 (sem 𝓛 (seen_side_by_side R κ p xs)) (sep 𝓤 (sem 𝓛 (seen_side_by_side R κ p xs)) (sem 𝓛 (seen_side_by_side R κ p xs)))
+  seen_twice (block_ptr b o) xs = contraction 𝓛 (elements_shared R xs b o) (elements_shr_laws R laws xs b o) κ
+  seen_twice null_ptr xs = qed 𝓛 (‵ ftrue ∷ []) ∵ nothing ! $ done !
+
+  seen_side : (p q : Ptr) (xs : List R.Denot) → (length xs ≡ 0) ⊎ (q ≡ p) → ent 𝓤 (sem 𝓛 (seen_side_by_side R κ p xs)) (sem 𝓛 (seen_side_by_side R κ q xs))
+  seen_side p q xs (inr e) = subst (λ (t : Ptr). ent 𝓤 (sem 𝓛 (seen_side_by_side R κ p xs)) (sem 𝓛 (seen_side_by_side R κ t xs))) (sym e) (id⊢ 𝓤 _)
+  seen_side p null_ptr xs (inl e) = qed 𝓛 (‵ (seen_side_by_side R κ p xs) ∷ []) ∵ drop ! $ nothing ! $ done !
+  seen_side p (block_ptr b o) [] (inl e) = qed 𝓛 (‵ (seen_side_by_side R κ p []) ∷ []) ∵ drop ! $ nothing ! $ done !
+  seen_side p (block_ptr b o) (x ∷ xs) (inl e) = absurd (no_item x xs e)
+
 -- so many values have room
 pub rooms : (R : RattleType) (m : ℕ) (p : Ptr) (n : ℕ) → m ≡ count_at (mem R).size p n → Room R m
 rooms R m p n e =
@@ -172,6 +187,19 @@ module _ {M : Type 1} {𝓤 : Ura M} {𝓛 : Logic 𝓤} {K : Type 0} {Γ : List
   comes_back t z R q p n xs it e {α} = step (λ s. let b = it.block in let o = it.offset in
       lft_end t z $ lent_back t z $ fsplit t $ drop t $ use1 𝓛 (‵ (shared_side_by_side R q p xs)) (shared_side 𝓛 R q (block_ptr b o) p xs (flips it.there)) $
       feq_i t ℕ (length xs) (count_at (mem R).size p n) e $ fjoin t $ s)
+
+  -- what C lends to be read is a shared slice, and stays
+  pub reads : K → (R : RattleType) → RowLaws R → (κ : Lft) (p : Ptr) (xs : List R.Denot) {v : Val} (it : IsPlaced (length xs) p v) → Room R (length xs)
+      → Step K 𝓛 (‵ ((ShrSlice (named 0) κ R).own_val (record { ref_ptr = (it.block, it.offset); now = xs }) (slice_val (it.block, it.offset) (length xs) ∷ []))
+      ∷ ‵ (seen_side_by_side R κ p xs) ∷ Γ) G (‵ (seen_side_by_side R κ p xs) ∷ Γ) G
+  reads t R laws κ p xs it room = step (λ s. let b = it.block in let o = it.offset in
+      use1 𝓛 (‵ (seen_side_by_side R κ p xs) ⊛ ‵ (seen_side_by_side R κ p xs)) (seen_twice 𝓛 R laws κ p xs) $ split t $
+      use1 𝓛 (‵ (fhide (elements_shared R xs b o κ))) (seen_side 𝓛 R laws κ p (block_ptr b o) xs it.there) $
+      pure_i t (shr_slice_at R (record { ref_ptr = (b, o); now = xs }) (slice_val (b, o) (length xs) ∷ [])) (tt, (tt, tt)) (refl, room) $ fjoin t $ s)
+
+  pub read_back : K → (R : RattleType) (loan : Lft × Share) (p : Ptr) (n : ℕ) (xs : List R.Denot) → length xs ≡ count_at (mem R).size p n
+      → Step K 𝓛 (‵ (lent_to_read R loan p n xs) ∷ Γ) G (‵ (seen_side_by_side R loan.0 p xs) ∷ ‵ (flft loan.0 loan.1) ∷ Γ) G
+  read_back t R loan p n xs e = step (λ s. fjoin t $ feq_i t ℕ (length xs) (count_at (mem R).size p n) e $ fjoin t $ s)
 
 pub joined : {xs xs' ys ys' : List Val} → xs ≡ xs' → ys ≡ ys' → xs ++ ys ≡ xs' ++ ys'
 joined {xs} {xs'} {ys} {ys'} e f = ap (λ (us : List Val). us ++ ys) e ∙ ap (λ (us : List Val). xs' ++ us) f

@@ -1,5 +1,5 @@
 -- The machine values of a `BoxParts` and of a `MeshPointer`. Assumes `Logic`.
-use Rattle.std.proofs.Common.{◌≡◌, ℕ, List, [], ◌∷◌, ◌++◌, refl, subst}
+use Rattle.std.proofs.Common.{◌≡◌, ℕ, List, [], ◌∷◌, ◌++◌, refl, subst, sym}
 use mathlib.Core.Bool.{true, ◌&&◌}
 use lib.Dec.{T}
 use seplogic.Ra.Ura.{Ura}
@@ -23,7 +23,7 @@ use Rattle.core.proofs.alloc.Calls.{Al, handle_tells}
 use Rattle.core.proofs.cell.Inside.{Good}
 use Rattle.std_alloc.specs.Box.Ownership.{box_owns}
 use Rattle.std_alloc.proofs.ResultValues.{and_tt}
-use Rattle.std.specs.Prelude.{Option}
+use Rattle.std.specs.Prelude.{Bool, Option, None, Some, false, is_some}
 use Rattle.core.proofs.atomic.Steps.{Ptr-Good}
 use Rattle.std.specs.contracts.alloc.Global as heap
 use Rattle.std.proofs.alloc.Global.TheLaws as heap_laws
@@ -83,6 +83,15 @@ alone v = vstruct (vcons v vnil)
 pub pointer_good : (p : Ptr) → T (has_ty (layout MeshPointer) (alone (ptr_val p))) × WT (alone (ptr_val p))
 pointer_good (block_ptr b o) = (tt, (tt, tt))
 pointer_good null_ptr = (tt, ((Ptr-Good null_ptr).1, tt))
+
+by_bool : Bool → Type 0
+by_bool true = Unit {0}
+by_bool false = ⊥
+
+pub some_of : {X : Type 0} (o : Option X) → is_some o ≡ true → (x : X) × (o ≡ Some x)
+unfolding by_bool
+some_of None e = absurd (subst by_bool (sym e) tt)
+some_of (Some x) e = (x, refl)
 
 module _ {M : Type 1} {𝓤 : Ura M} {𝓛 : Logic 𝓤} {K : Type 0} {Γ : List (Item 𝓤)} {G : Goal 𝓤 𝓛.H} where
   pub pointer_out : K → (d : MeshPointer.Denot) (vs : List Val)

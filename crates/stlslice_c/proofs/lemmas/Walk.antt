@@ -1,11 +1,11 @@
 -- The names that the walks of the exports cite.
-pub use Rattle.std.proofs.Common.{ℕ, List, [], ◌∷◌, length, refl, sym, ap, subst, w32, w64, lit<}
+pub use Rattle.std.proofs.Common.{ℕ, ℤ, List, [], ◌∷◌, length, refl, sym, ap, subst, w8, w32, w64, lit<, Bor, MutBor}
 pub use mir.Val.{Val, vint, vunit}
 pub use base.Fraction.{full_share}
 pub use base.Logic.{SProp, ent, emp, id⊢, ex_i}
 pub use base.Fml.{ftrue, flft}
 pub use prog.Wp.{WpFn}
-pub use types.Kit.{‵, raw, ◌⊛◌, some, later, ◌$◌, ◌∵◌, !, qed, by, move, keep, drop, use0, use1, split, join, pick, fsplit, fjoin, feq_l, feq_i, await, suffices, mean}
+pub use types.Kit.{Item, ‵, raw, ◌⊛◌, some, later, ◌$◌, ◌∵◌, !, qed, by, move, keep, drop, use0, use1, split, join, pick, fsplit, fjoin, feq_l, feq_i, await, suffices, mean}
 pub use types.Run.{stop, fld, of_opd, lit, unit_lit, no_more, and_then, returns, enter}
 pub use types.ByLocal.{alloc_all, pass_all, free_all, look_at, get, get_in, sets, lands_as}
 pub use types.Part.{agg, sub, whole}

@@ -13,7 +13,7 @@ returns c =
     let s : ℕ = c.if-exponent-eq0.significand in
     let t : ℕ = c.max.result in
     let m : ℕ = c.min-shift.result in
-    let less : c.micrometres.result < 2 ^ 15 = subst (λ (n : ℕ). n < 2 ^ 15) (sym c.micrometres.ensures) (micrometres_few c.args.unit) in
+    let less : c.micrometres.result < 2 ^ 20 = subst (λ (n : ℕ). n < 2 ^ 20) (sym c.micrometres.ensures) (micrometres_few c.args.unit) in
     let few : s < 2 ^ 24 = elim c.if-exponent-eq0.branch [ then-exponent-eq0 w ↦ omega arith | else-exponent-eq0 w ↦ omega arith ] in
     let is : 2 ^ (t - 1) * s ≡ multiple e f = elim c.if-exponent-eq0.branch [
       | then-exponent-eq0 w ↦ subnormal e f s t w.if-exponent-eq0.true w.significand-is c.max.ensures

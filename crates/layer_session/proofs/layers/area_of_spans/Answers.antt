@@ -11,11 +11,10 @@ area-requires g c =
       rows = c.args.job.now.grid.rows;
       few_columns = limits.columns_high;
       few_rows = limits.rows_high;
-      form = c.requires.form;
+      form = c.requires;
     }
 
 pub returns : goal.returns
 returns g c =
-    c.area.ensures
-    ∙ span_area-is c.args.job.now.grid c.args.job.now.rule c.args.job.now.solid.facets c.args.k c.args.spans.now
-    c.requires.form c.requires.filled
+    λ rule k fill. c.area.ensures
+    ∙ span_area-is c.args.job.now.grid rule c.args.job.now.solid.facets k c.args.spans.now c.requires fill.filled

@@ -8,5 +8,5 @@ invariant-loop-k g l =
     record {
       solid : l.sweep.facets ≡ l.job.solid.facets;
       height : l.sweep.height ≤ℤ plane l.job.grid l.k;
-      areas : l.areas.items ≡ areas_of l.job l.first (l.k - l.first);
+      areas : l.areas.items ≡ areas_of l.job l.rule l.first (l.k - l.first);
     }

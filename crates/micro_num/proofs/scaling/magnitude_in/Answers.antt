@@ -41,7 +41,7 @@ overflow_add-power-2 c =
     let u : ℕ = unit_power c.args.unit in
     let few : k ≤ WORD_LIMIT = omega (arith, c.requires.mantissa.within) in
     let fewer : j ≤ WORD_LIMIT = omega (arith, c.requires.mantissa.few, c.requires.mantissa.within) in
-    let up : u ≤ 3 = power_small c.args.unit in
+    let up : u ≤ 6 = power_small c.args.unit in
     rw (
       less c.args.exponent k c.requires.small few,
       more (c.args.exponent -ℤ pos k) j (omega (arith, ints)) fewer,
@@ -60,7 +60,7 @@ returns c = λ z is_near.
     let u : ℕ = unit_power c.args.unit in
     let m : ℕ = unit_factor c.args.unit * digits_value (w ++ f) in
     let d : ℤ = pos u -ℤ pos (length f) in
-    let up : u ≤ 3 = power_small c.args.unit in
+    let up : u ≤ 6 = power_small c.args.unit in
     let short : length (w ++ f) ≤ WORD_LIMIT = omega (arith, length-append w f) in
     let below : m < 10 ^ 300 = times_below c.args.unit (digits_value (w ++ f)) (length (w ++ f)) (digits_below (w ++ f) c.requires.mantissa.digits) short in
     let cut = c.in_unit.ensures in

@@ -1,4 +1,4 @@
-use Rattle.std.proofs.Common.{◌≡◌, ◌∷◌, slice_set, get_or, ap, subst}
+use Rattle.std.proofs.Common.{slice_set, get_or, ap, subst}
 use Rattle.stlslice_c.specs.Answers.{IsBoxAnswer}
 use Rattle.stlslice_c.specs.declared.shape.Corners.{Corners}
 use Rattle.std.specs.Prelude.{pos}

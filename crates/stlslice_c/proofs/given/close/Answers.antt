@@ -1,4 +1,4 @@
-use Rattle.std.proofs.Common.{◌≡◌, ◌∷◌, slice_set, ap}
+use Rattle.std.proofs.Common.{slice_set, ap}
 use Rattle.stlslice_c.proofs.given.close.Goals as goal
 
 pub returns-then-mesh-ne0-clause-answered : goal.returns-then-mesh-ne0-clause-answered

@@ -1,4 +1,4 @@
-use Rattle.std.proofs.Common.{◌≡◌, ◌∷◌, slice_set, get_or, ap}
+use Rattle.std.proofs.Common.{slice_set, get_or, ap}
 use Rattle.layer_session.specs.Session.{of_file}
 use Rattle.stlslice_c.proofs.lemmas.Given.{opened_at}
 use Rattle.std.specs.Prelude.{pos}
@@ -7,10 +7,27 @@ use Rattle.stlslice_c.specs.declared.shape.Shape.{Shape}
 use Rattle.stlslice_c.proofs.given.open.Goals as goal
 
 abbrev options_of_zeros : Options
-options_of_zeros = record { pitch = 0; layer = 0; rule = 0; unit = 0; placing = 0; cells = record { columns = 0; rows = 0; layers = 0; origin_x = pos 0; origin_y = pos 0; origin_z = pos 0 } }
+options_of_zeros = record {
+  pitch = 0;
+  layer = 0;
+  rule = 0;
+  unit = 0;
+  placing = 0;
+  cells = record { columns = 0; rows = 0; layers = 0; origin_x = pos 0; origin_y = pos 0; origin_z = pos 0 };
+  turn = 0;
+  width = record { numerator = 0; denominator = 0 };
+  depth = record { numerator = 0; denominator = 0 };
+}
 
 abbrev shape_of_zeros : Shape
-shape_of_zeros = record { corners = record { facets = 0; low_x = pos 0; low_y = pos 0; low_z = pos 0; high_x = pos 0; high_y = pos 0; high_z = pos 0 }; cells = record { columns = 0; rows = 0; layers = 0; origin_x = pos 0; origin_y = pos 0; origin_z = pos 0 } }
+shape_of_zeros = record {
+  corners = record { facets = 0; low_x = pos 0; low_y = pos 0; low_z = pos 0; high_x = pos 0; high_y = pos 0; high_z = pos 0 };
+  cells = record { columns = 0; rows = 0; layers = 0; origin_x = pos 0; origin_y = pos 0; origin_z = pos 0 };
+  pitch = 0;
+  layer = 0;
+  times_x = 0;
+  times_y = 0;
+}
 
 pub returns-clause-answered : goal.returns-clause-answered
 returns-clause-answered c size room o x y d e f =

@@ -1,46 +1,50 @@
-use Rattle.std.proofs.Common.{◌≡◌, ◌∙◌, ◌+◌, ℕ, arith, sym, ap, subst, flat_map, option_to_list}
-use Rattle.std.specs.Vec.{with_items}
-use Rattle.std.proofs.lemmas.List.{with_items_is}
+use Rattle.std.proofs.Common.{◌≡◌, ◌∙◌, ◌+◌, ℕ, ap, arith, refl, sym}
+use Rattle.std.proofs.lemmas.Bool.{false≢true}
+use Rattle.std.proofs.lemmas.Result.{IfOk-weaker}
+use Rattle.build_book.specs.Book.{Book}
+use Rattle.build_book.specs.Build.{Build}
+use Rattle.build_book.specs.Job.{Job}
 use Rattle.build_book.specs.Places.{filed_count}
-use Rattle.build_book.specs.Build.{Build, IsComplete}
-use Rattle.build_book.proofs.lemmas.Places.{all_complete, all_counted}
+use Rattle.build_book.proofs.lemmas.Places.{none_filed}
 use Rattle.build_book.proofs.book.Book.finish.Goals as goal
-use Rattle.build_book.proofs.book.Book.finish.Goals.{In_ok-layers}
 
-whole_places : (g : _) (c : In_ok-layers g) → (with_items c.in_ok-places.places c.make_missing.new.places).items ≡ c.make_missing.new.places
-whole_places g c =
-    with_items_is c.in_ok-places.places c.make_missing.new.places
-    (c.in_ok-late.ensures.lawful.one_each ∙ sym c.in_ok-places.ensures.lawful.one_each ∙ sym c.in_ok-places.places.ok.0)
+pub returns-then-same-clause-job : goal.returns-then-same-clause-job
+returns-then-same-clause-job g c =
+    IfOk-weaker c.finish_own.result (λ (build : Build). build.job ≡ c.args.self.job) (λ build. build.job ≡ c.args.job.now)
+    (λ build is. is ∙ sym (ap (λ (s : Book). s.job) c.self.view_is) ∙ c.if-same.ensures.0 refl) c.finish_own.ensures.job
 
-complete : (g : _) (c : In_ok-layers g) → IsComplete c.args.job.now c.in_ok-layers.layers.items
-complete g c =
-    subst (IsComplete c.args.job.now) (sym (c.in_ok-layers.ensures ∙ ap (flat_map option_to_list) (whole_places g c)))
-    (all_complete c.args.job.now c.make_missing.new.places c.in_ok-late.ensures.lawful c.in_ok-late.ensures.all)
+pub returns-then-same-clause-late : goal.returns-then-same-clause-late
+returns-then-same-clause-late g c =
+    IfOk-weaker c.finish_own.result (λ (build : Build). build.late + filed_count c.args.self.places ≡ c.args.self.job.grid.layers)
+    (λ build. c.args.self.job ≡ c.args.job.now → build.late + filed_count c.args.self.places ≡ c.args.job.now.grid.layers)
+    (λ build is own. is ∙ ap (λ (w : Job). w.grid.layers) own) c.finish_own.ensures.late
 
-all_places : (g : _) (c : In_ok-layers g) → filed_count c.make_missing.new.places ≡ c.args.job.now.grid.layers
-all_places g c = all_counted c.make_missing.new.places c.in_ok-late.ensures.all ∙ c.in_ok-late.ensures.lawful.one_each
+pub returns-then-same-clause-all_late : goal.returns-then-same-clause-all_late
+returns-then-same-clause-all_late g c =
+    IfOk-weaker c.finish_own.result (λ (build : Build). build.job ≡ c.args.self.job)
+    (λ build. (c.args.self.job ≡ c.args.job.now → ⊥) → build.late ≡ c.args.job.now.grid.layers)
+    (λ build is other. absurd (other (sym (ap (λ (s : Book). s.job) c.self.view_is) ∙ c.if-same.ensures.0 refl))) c.finish_own.ensures.job
 
-pub of-requires : goal.of-requires
-of-requires g c = complete g c
-
-pub returns-clause-complete : goal.returns-clause-complete
-returns-clause-complete g c = rw c.of.ensures (complete g (goal.at.returns-clause-complete g c).In_ok-layers)
-
--- the layers made are those that were not filed
-late_are : (late made filed before after all : ℕ) → late ≡ made → made + before ≡ after → before ≡ filed → after ≡ all → late + filed ≡ all
-late_are late made filed before after all same counted kept whole = omega (arith, same, counted, kept, whole)
-
-all_are_late : (late made before after all : ℕ) → late ≡ made → made + before ≡ after → before ≡ 0 → after ≡ all → late ≡ all
-all_are_late late made before after all same counted none whole = omega (arith, same, counted, none, whole)
+pub returns-clause-job : goal.returns-clause-job
+returns-clause-job g c =
+    IfOk-weaker c.finish_own-else-same.result (λ (build : Build). build.job ≡ c.in_ok-open.field-0.job) (λ build. build.job ≡ c.args.job.now)
+    (λ build is. is ∙ ap (λ (b : Book). b.job) c.in_ok-open.ensures) c.finish_own-else-same.ensures.job
 
 pub returns-clause-late : goal.returns-clause-late
-returns-clause-late g c same =
-    let d = (goal.at.returns-clause-late g c).In_ok-layers in
-    late_are c.of.result.late d.in_ok-late.late (filed_count c.args.self.places) (filed_count d.as_mut_slice.result.now) _ _ (ap (λ (b : Build). b.late) c.of.ensures)
-    d.in_ok-late.ensures.late (ap filed_count {y = c.args.self.places} (d.as_mut_slice.ensures.value ∙ d.in_ok-places.ensures.same same)) (all_places g d)
+returns-clause-late g c =
+    IfOk-weaker c.finish_own-else-same.result (λ (build : Build). build.job ≡ c.in_ok-open.field-0.job)
+    (λ build. c.args.self.job ≡ c.args.job.now → build.late + filed_count c.args.self.places ≡ c.args.job.now.grid.layers)
+    (λ build is own. absurd (false≢true (c.if-same.ensures.1 (ap (λ (s : Book). s.job) c.self.view_is ∙ own)))) c.finish_own-else-same.ensures.job
+
+-- no layer was filed, so all are made
+all_made : (made filed all whole : ℕ) → made + filed ≡ all → filed ≡ 0 → all ≡ whole → made ≡ whole
+all_made made filed all whole counted none same = omega (arith, counted, none, same)
 
 pub returns-clause-all_late : goal.returns-clause-all_late
-returns-clause-all_late g c other =
-    let d = (goal.at.returns-clause-all_late g c).In_ok-layers in
-    all_are_late c.of.result.late d.in_ok-late.late (filed_count d.as_mut_slice.result.now) _ _ (ap (λ (b : Build). b.late) c.of.ensures)
-    d.in_ok-late.ensures.late (ap filed_count {y = d.in_ok-places.places.items} d.as_mut_slice.ensures.value ∙ d.in_ok-places.ensures.other other) (all_places g d)
+returns-clause-all_late g c =
+    let fresh = c.in_ok-open.field-0 in
+    IfOk-weaker c.finish_own-else-same.result (λ (build : Build). build.late + filed_count fresh.places ≡ fresh.job.grid.layers)
+    (λ build. (c.args.self.job ≡ c.args.job.now → ⊥) → build.late ≡ c.args.job.now.grid.layers)
+    (λ build is other. all_made build.late (filed_count fresh.places) fresh.job.grid.layers c.args.job.now.grid.layers is
+    (ap (λ (b : Book). filed_count b.places) c.in_ok-open.ensures ∙ none_filed c.args.job.now.grid.layers)
+    (ap (λ (b : Book). b.job.grid.layers) c.in_ok-open.ensures)) c.finish_own-else-same.ensures.late

@@ -68,3 +68,4 @@ returns-clause-found c =
     in_x in_y
     (layers-by _ _ c.args.low.z c.args.high.z c.args.layer_height c.layer_count-layers.result (coordinate c.z.result c.z.ensures.within ∙ c.z.ensures.value)
     (coordinate c.z-2.result c.z-2.ensures.within ∙ c.z-2.ensures.value) c.layer_count-layers.ensures)
+    c.if-layers-gt-LAYER_LIMIT.false

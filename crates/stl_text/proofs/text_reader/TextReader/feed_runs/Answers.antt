@@ -1,7 +1,6 @@
-use Rattle.std.proofs.Common.{◌≡◌, ◌+◌, ◌++◌, [], List, ℕ, All, length, refl, sym, ◌∙◌, subst, true, false}
-use denote.Enum.Bare.{sameb}
+use Rattle.std.proofs.Common.{◌≡◌, ◌+◌, ◌++◌, [], List, ℕ, All, length, rules, sym, ◌∙◌, subst, true, false}
+use denote.Enum.Bare.{same_true}
 use Rattle.micro_num.specs.declared.unit.Unit.{Unit as LengthUnit}
-use Rattle.micro_num.specs.declared.unit.Unit.TheVariants.{Millimetre, Inch}
 use Rattle.micro_num.specs.contracts.unit.Unit.{the_type}
 use Rattle.stl_text.specs.FacetRun.{IsFacetRun}
 use Rattle.stl_text.specs.declared.facet_run.FacetRun.{FacetRun}
@@ -9,12 +8,6 @@ use Rattle.stl_text.specs.TextReader.{IsAfter, IsReadingAt, TextReader}
 use Rattle.stl_text.proofs.lemmas.TextReaders.{unit_known}
 use Rattle.stl_text.proofs.text_reader.TextReader.feed_runs.Goals as goal
 use Rattle.stl_text.proofs.text_reader.TextReader.feed_runs.Goals.{in-Stopped, in_default}
-
-same_unit : (a b : LengthUnit) → sameb the_type a b ≡ true → a ≡ b
-same_unit Millimetre Millimetre e = refl
-same_unit Millimetre Inch e = let wrong : false ≡ true = e in cc
-same_unit Inch Millimetre e = let wrong : false ≡ true = e in cc
-same_unit Inch Inch e = refl
 
 pub returns : goal.returns
 returns g c = λ limit unit taken fed is.
@@ -30,7 +23,7 @@ returns g c = λ limit unit taken fed is.
     let chunk = c.in_order-runs.result.0.now in
     let runs = c.in_order-runs.result.1.items in
     let bytes_is : chunk ≡ c.args.found.bytes = c.in_order-runs.ensures.chunk in
-    let own : c.unit.result ≡ i.unit = same_unit c.unit.result i.unit (sym c.eq-is_own.ensures ∙ c.if-not-is_own.false) in
+    let own : c.unit.result ≡ i.unit = same_true the_type (search rules) _ _ (sym c.eq-is_own.ensures ∙ c.if-not-is_own.false) in
     let unit_is : c.args.found.unit ≡ unit = sym c.unit.ensures ∙ own ∙ known in
     let known_runs : All (P unit chunk) c.deref.result.now = subst (All (P unit chunk)) (sym c.deref.ensures.value)
     (subst (λ b. All (P unit b) runs) (sym bytes_is) (subst (λ u. All (P u c.args.found.bytes) runs) unit_is c.in_order-runs.ensures.runs)) in

@@ -19,26 +19,17 @@ use mir.Raw.{raw as bare}
 use denote.Steps.{nothing, heard}
 use denote.Triple.Walked.{Stays, stay_dropped, walk_of}
 use Rattle.core.proofs.alloc.Calls.{Goes-blank, handle_tells}
-use Rattle.std.specs.Prelude.{Option, Bool, true, false, is_some}
-use Rattle.core.specs.declared.option.Option.TheVariants.{None, Some}
+use Rattle.std.specs.Prelude.{Option, true, is_some}
+use Rattle.core.specs.declared.option.Option.TheVariants.{Some}
 use Rattle.std_alloc.specs.Box.Ownership.{box_owns}
 use Rattle.std.proofs.raw_atomic.Walks.{proved_at, leaves}
 use Rattle.stlslice_c.specs.MeshPointer.{owned, token}
 use Rattle.std.specs.contracts.impls.GlobalAllocator.TheImpl.{ghosts}
-use Rattle.stlslice_c.proofs.lemmas.Values.{both, alone, parts_good, parts_in, R, Z, LZ, MeshPointer, zal, pointer_good, pointer_out}
+use Rattle.stlslice_c.proofs.lemmas.Values.{both, alone, parts_good, parts_in, R, Z, LZ, MeshPointer, zal, pointer_good, pointer_out, some_of}
 use Rattle.stlslice_c.specs.contracts.mesh_pointer.MeshPointer.into_parts.{ended, clauses}
 use Rattle.stlslice_c.specs.contracts.mesh_pointer.MeshPointer.into_parts.Key.{name as #self}
 use Rattle.stlslice_c.proofs.mesh_pointer.MeshPointer.into_parts.Statement.{statement}
 use Rattle.stlslice_c.proofs.mesh_pointer.MeshPointer.into_parts.Code as code
-
-by_bool : Bool → Type 0
-by_bool true = Unit {0}
-by_bool false = ⊥
-
-some_of : {X : Type 0} (o : Option X) → is_some o ≡ true → (x : X) × (o ≡ Some x)
-unfolding by_bool
-some_of None e = absurd (subst by_bool (sym e) tt)
-some_of (Some x) e = (x, refl)
 
 pub into_parts_spec : {M : Type 1} → statement M
 into_parts_spec 𝓤 𝓛 𝓜 𝓡 wired =

@@ -2,18 +2,18 @@ use Rattle.std.proofs.Common.{◌∙◌, ◌∷◌, [], ap, arith, length, lengt
 use Rattle.std.proofs.lemmas.Result.{err_from_is_err_and}
 use Rattle.binary_stl.proofs.lemmas.Answer.{answer_fault, answer_found}
 use Rattle.binary_stl.proofs.lemmas.Places.{first_facets_more, first_fault}
-use Rattle.binary_stl.proofs.reading.read_binary.Goals as goal
+use Rattle.binary_stl.proofs.reading.read_binary_at_most.Goals as goal
 
 pub returns-in_err-count : goal.returns-in_err-count
 returns-in_err-count g c =
     let p = err_from_is_err_and c.from_residual.result c.from_residual.ensures.1 in
-    rw (p.1, p.2) (answer_fault c.args.unit c.args.bytes.now c.in_err-count.field-0.0 (c.in_err-count.ensures.fault c.args.unit))
+    rw (p.1, p.2) (answer_fault c.args.limit c.args.unit c.args.bytes.now c.in_err-count.field-0.0 (c.in_err-count.ensures.fault c.args.unit))
 
 pub returns-in_err-facet : goal.returns-in_err-facet
 returns-in_err-facet g c =
     let p = err_from_is_err_and c.from_residual-in_err-facet.result c.from_residual-in_err-facet.ensures.1 in
-    rw (p.1, p.2) (answer_fault c.args.unit c.args.bytes.now c.in_err-facet.field-0.0
-    (first_fault c.args.unit c.args.bytes.now c.loop-index.facets.items c.in_err-facet.field-0.0 c.loop-index.index c.loop-index.invariant.count
+    rw (p.1, p.2) (answer_fault c.args.limit c.args.unit c.args.bytes.now c.in_err-facet.field-0.0
+    (first_fault c.args.limit c.args.unit c.args.bytes.now c.loop-index.facets.items c.in_err-facet.field-0.0 c.loop-index.index c.loop-index.invariant.count
     c.in_ok-count.ensures.form
     (omega (arith, c.in_ok-count.ensures.count, c.in_ok-count.ensures.few))
     (omega (arith, c.in_ok-count.ensures.count, c.loop-index-test.true))
@@ -28,7 +28,7 @@ loop-index-preserved g c = record {
 
 pub returns : goal.returns
 returns g c =
-    answer_found c.args.unit c.args.bytes.now c.loop-index.facets (record {
+    answer_found c.args.limit c.args.unit c.args.bytes.now c.loop-index.facets (record {
       form = c.in_ok-count.ensures.form;
       few = omega (arith, c.in_ok-count.ensures.count, c.in_ok-count.ensures.few);
       count = c.loop-index.invariant.count ∙ omega (arith, c.in_ok-count.ensures.count, c.loop-index-test.false, c.loop-index.auto.index-end);
