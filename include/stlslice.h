@@ -24,8 +24,9 @@
  * is not null has to be valid for its type. The places that one call writes to overlap neither each other nor what it
  * reads.
  *
- * Threads. A mesh may go from thread to thread, and is used by one call at a time. Different meshes are independent of
- * each other.
+ * Threads. Calls that take a mesh by const only read it, and any number of them may run at the same time on one mesh, each
+ * with places of its own to write to. A call that opens or closes a mesh needs it alone: no other call runs on it at the
+ * same time. A mesh may go from thread to thread. Different meshes are independent of each other.
  */
 #ifndef STLSLICE_H
 #define STLSLICE_H
@@ -48,27 +49,40 @@ typedef uint32_t stlslice_status;
 #define STLSLICE_MEMORY 6u       /* out of memory: an allocation failed */
 #define STLSLICE_NO_ROOM 7u      /* the buffer is too small */
 #define STLSLICE_NOT_OPEN 8u     /* no mesh was opened, or it was closed */
+#define STLSLICE_NO_FIT 9u       /* the part does not fit the screen; the line has both sizes, and whether a turn helps */
 
 /* A size that is enough for each line. */
 #define STLSLICE_LINE 256
 
 /* Rules, units and where the grid lies. Zeros are what the program takes by default. Pitch and layer have no default. */
 enum { STLSLICE_EVENODD = 0, STLSLICE_NONZERO = 1, STLSLICE_POSITIVE = 2 };
-enum { STLSLICE_MILLIMETRE = 0, STLSLICE_INCH = 1 };
-enum { STLSLICE_FITTED = 0, STLSLICE_GIVEN = 1 };
+enum { STLSLICE_MILLIMETRE = 0, STLSLICE_INCH = 1, STLSLICE_CENTIMETRE = 2, STLSLICE_METRE = 3 };
+enum { STLSLICE_FITTED = 0, STLSLICE_GIVEN = 1, STLSLICE_SCREEN = 2 };
 
 /* Mirrors of a PNG: 0, one of these, or their sum. */
 enum { STLSLICE_MIRROR_X = 1, STLSLICE_MIRROR_Y = 2 };
 
-/* How a file is read, and how a mesh is cut into voxels. */
+/* A side of a pixel: numerator / denominator micrometres, neither of them 0. 81 mm of 1620 pixels are 81000 / 1620. */
+typedef struct stlslice_side {
+    uint32_t numerator, denominator;
+} stlslice_side;
+
+/* How a file is read, and how a mesh is cut into voxels. For STLSLICE_SCREEN the part stands in the middle of a printer's
+ * screen, and its lowest point on the first layer. There are as many layers as have their middle within the part's height, and
+ * at least one. The part is turned, and then x and y are multiplied by whole numbers, so that pixels become squares: a pixel of
+ * 19 by 24 micrometres has a pitch of 456, and x is multiplied by 24, y by 19. Pixels that are no screen's (none of them, more
+ * than 16384 in a row or column, a side with a 0, no common pitch up to 100000) have the status STLSLICE_OUT_OF_RANGE, with a
+ * line that says so. */
 typedef struct stlslice_options {
-    uint32_t pitch;                 /* a voxel's length along x and y, 1 to 100000 */
+    uint32_t pitch;                 /* a voxel's length along x and y, 1 to 100000; not read for STLSLICE_SCREEN */
     uint32_t layer;                 /* a voxel's length along z, 1 to 100000 */
     uint32_t rule;                  /* STLSLICE_EVENODD, .. */
     uint32_t unit;                  /* of a file's numbers: STLSLICE_MILLIMETRE, ..; of no effect on arrays */
-    uint32_t placing;               /* STLSLICE_FITTED: the rest is not read; STLSLICE_GIVEN: it is the grid */
-    uint32_t columns, rows, layers; /* at most 16384, 16384 and 65535 */
-    int32_t origin[3];              /* the corner of least x, y and z, each at most 128000000 from 0 */
+    uint32_t placing;               /* STLSLICE_FITTED: the rest is not read; STLSLICE_GIVEN: the grid follows; STLSLICE_SCREEN */
+    uint32_t columns, rows, layers; /* at most 16384, 16384 and 65535; for STLSLICE_SCREEN its pixels, and layers is not read */
+    int32_t origin[3];              /* the corner of least x, y and z, each at most 128000000 from 0; not read for STLSLICE_SCREEN */
+    uint32_t turn;                  /* STLSLICE_SCREEN: quarters, counterclockwise as seen from above, 0 to 3 */
+    stlslice_side width, depth;     /* STLSLICE_SCREEN: the sides of a pixel along x and y of the image */
 } stlslice_options;
 
 /* The facets of a file or of arrays: how many, and their least and greatest x, y and z. All are 0 if there is none. */
@@ -77,17 +91,25 @@ typedef struct stlslice_corners {
     int32_t low[3], high[3];
 } stlslice_corners;
 
-/* A mesh that was opened: its facets, and the counts and the least corner of its grid. */
+/* A mesh that was opened: its facets as they were read, and the counts, the least corner and the voxels of its grid. On a
+ * screen corner and pitch are multiplied, as points of loops are. */
 typedef struct stlslice_shape {
     stlslice_corners corners;
     uint32_t columns, rows, layers;
     int32_t origin[3];
+    uint32_t pitch, layer;     /* of a voxel, along x and y, and along z */
+    uint64_t times_x, times_y; /* by what x and y are multiplied on a screen; else 1 */
 } stlslice_shape;
 
 /* The signed crossings of the mesh by the rays along x and y from a voxel's centre. */
 typedef struct stlslice_rays {
     int32_t along_x, along_y;
 } stlslice_rays;
+
+/* A facet: x, y and z of its three corners in micrometres, counterclockwise as seen from outside. */
+typedef struct stlslice_facet {
+    int32_t corners[3][3];
+} stlslice_facet;
 
 /* A point of a layer's plane, in half-micrometres: each coordinate the nearest to the exact one, halves upward. */
 typedef struct stlslice_point {
@@ -110,10 +132,17 @@ uint32_t stlslice_version(void);
  * rounded once to the nearest micrometre, halves away from zero.
  * After a fault of text, mesh or grid, `line` has what the program writes for it after "stlslice: ". After one of a binary
  * STL it is "x of corner 2 of facet 3: not a number", "..: infinite" or "..: out of range", where facets and corners count
- * from 0, or "too many facets: 1048577". If a number is out of its range, or an allocation failed, `line` has a text of
+ * from 0, or "too many facets: 1048577". Lines of a part on a screen are the screen's, and its open edge is the least as the
+ * part stands there, by its own points. If a number is out of its range, or an allocation failed, `line` has a text of
  * that. It ends with 0, and is cut if there is no room for it. At STLSLICE_DONE it is as it was. */
 stlslice_status stlslice_box(const uint8_t *bytes, size_t size, uint32_t unit, stlslice_corners *corners, char *line,
                              size_t line_room);
+
+/* Reads the bytes of a file, as stlslice_box does, and puts its facets into `facets`, in the file's order. They need not be a
+ * closed mesh, and there may be as many as a binary STL can count. `line` is as in stlslice_box, and at STLSLICE_NO_ROOM as it
+ * was. */
+stlslice_status stlslice_facets(const uint8_t *bytes, size_t size, uint32_t unit, stlslice_facet *facets, size_t facets_room,
+                                size_t *facets_count, char *line, size_t line_room);
 
 /* Opens the bytes of a file, as stlslice_box reads them: `mesh` has its mesh from now on, in place of one that it had. The
  * bytes are no longer needed. After a fault, `mesh` and `shape` are as they were, and `line` is as in stlslice_box. */
@@ -136,10 +165,11 @@ stlslice_status stlslice_open_mesh(const int32_t *points, size_t point_count, co
 /* The image of layer k in raw PBM, exactly as the program writes it: "P4", columns and rows, then the rows from the
  * greatest y down. A row has (columns + 7) / 8 bytes, its leftmost pixel in the highest bit; a bit is 1 if the voxel is
  * filled. */
-stlslice_status stlslice_mask(stlslice_mesh *mesh, uint32_t k, uint8_t *image, size_t image_room, size_t *image_size);
+stlslice_status stlslice_mask(const stlslice_mesh *mesh, uint32_t k, uint8_t *image, size_t image_room, size_t *image_size);
 
 /* The images of the layers 8 s to 8 s + 7, as far as there are, one after the other. This is faster than one by one. */
-stlslice_status stlslice_stripe(stlslice_mesh *mesh, uint64_t s, uint8_t *images, size_t images_room, size_t *images_size);
+stlslice_status stlslice_stripe(const stlslice_mesh *mesh, uint64_t s, uint8_t *images, size_t images_room,
+                                size_t *images_size);
 
 /* The image of layer k as PNG (ISO 15948) in greyscale, of `depth` bits a pixel, 1 or 8. A pixel is white if the voxel
  * is filled, else black. Without mirrors column 0 stands at the left, and the greatest y at the top, as in
@@ -147,24 +177,25 @@ stlslice_status stlslice_stripe(stlslice_mesh *mesh, uint64_t s, uint8_t *images
  * another depth or other mirrors the status is STLSLICE_OUT_OF_RANGE. Sizes differ from layer to layer, and the size
  * alone takes as long as the image. So try a buffer first that is likely to be enough, as one of the size that
  * stlslice_mask reports and 100 bytes more. */
-stlslice_status stlslice_png(stlslice_mesh *mesh, uint32_t k, uint32_t depth, uint32_t mirrors, uint8_t *png, size_t png_room,
-                             size_t *png_size);
+stlslice_status stlslice_png(const stlslice_mesh *mesh, uint32_t k, uint32_t depth, uint32_t mirrors, uint8_t *png,
+                             size_t png_room, size_t *png_size);
 
 /* The number of filled pixels of layer k. */
-stlslice_status stlslice_area(stlslice_mesh *mesh, uint32_t k, uint64_t *area);
+stlslice_status stlslice_area(const stlslice_mesh *mesh, uint32_t k, uint64_t *area);
 
-/* The numbers of filled pixels of `count` layers, from layer `first` on. This is faster than one by one. If the mesh has not all
- * of these layers, none is told, and the status is STLSLICE_OUT_OF_RANGE. */
-stlslice_status stlslice_areas(stlslice_mesh *mesh, uint32_t first, uint64_t *areas, size_t count);
+/* The numbers of pixels that a rule fills, which may be another than the mesh's, of `count` layers, from layer `first` on. This
+ * is faster than one by one. If the mesh has not all of these layers, or there is no such rule, none is told, and the status is
+ * STLSLICE_OUT_OF_RANGE. */
+stlslice_status stlslice_areas(const stlslice_mesh *mesh, uint32_t rule, uint32_t first, uint64_t *areas, size_t count);
 
 /* The rays from the centre of the voxel of column i, row j (from the least y up) and layer k. */
-stlslice_status stlslice_probe(stlslice_mesh *mesh, uint32_t i, uint32_t j, uint32_t k, stlslice_rays *rays);
+stlslice_status stlslice_probe(const stlslice_mesh *mesh, uint32_t i, uint32_t j, uint32_t k, stlslice_rays *rays);
 
 /* The loops in which the plane through the middle of layer k cuts the mesh. They are closed polygons. If the facets of
  * a mesh face outward, its inside is on the left of each step. `points` gets the points of all loops, one loop after
  * the other. `ends` gets for each loop the position after its last point; the last point runs back to the first. If one
  * of the two buffers is too small, neither is written, and both numbers are reported. */
-stlslice_status stlslice_loops(stlslice_mesh *mesh, uint32_t k, stlslice_point *points, size_t points_room,
+stlslice_status stlslice_loops(const stlslice_mesh *mesh, uint32_t k, stlslice_point *points, size_t points_room,
                                size_t *points_count, size_t *ends, size_t ends_room, size_t *loops_count);
 
 /* The text of a status: what stands beside the status above, in short. It ends with 0, and is cut if there is no room

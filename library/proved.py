@@ -69,11 +69,8 @@ def are_proved(listed):
 def toolchain_of_links(toolchain, room):
     """The toolchain's folder once more, with the script in clang's place."""
     os.makedirs(f"{room}/modules")
-    os.makedirs(f"{room}/toolchain/bin")
+    shutil.copytree(f"{toolchain}/bin", f"{room}/toolchain/bin", ignore=shutil.ignore_patterns("clang"), copy_function=os.symlink)
     os.symlink(f"{toolchain}/lib", f"{room}/toolchain/lib")
-    for name in os.listdir(f"{toolchain}/bin"):
-        os.symlink(f"{toolchain}/bin/{name}", f"{room}/toolchain/bin/{name}")
-    os.remove(f"{room}/toolchain/bin/clang")
     with open(f"{room}/toolchain/bin/clang", "w", encoding="utf-8") as file:
         file.write(CLANG.format(room=room, toolchain=toolchain))
     os.chmod(f"{room}/toolchain/bin/clang", 0o755)

@@ -1,4 +1,4 @@
-"""Makes the wheel of a library: it has the Python module too. No other package is needed for it.
+"""Makes the wheel of a library: it has the Python module too, and for Linux the commands for printing. No other package is needed for it.
 
     wheel_of_library.py VERSION LIBRARY FOLDER
 
@@ -7,6 +7,7 @@
 
 import base64
 import csv
+import glob
 import hashlib
 import io
 import os
@@ -14,6 +15,7 @@ import sys
 import zipfile
 
 HERE = os.path.dirname(os.path.abspath(__file__))
+COMMANDS = os.path.join(HERE, "..", "commands", "stlslice_commands")
 # The machines of ELF files, by their number. The library asks for no symbol of a later C library than 2.17.
 ELF_MACHINES = {62: "manylinux_2_17_x86_64", 183: "manylinux_2_17_aarch64"}
 
@@ -32,6 +34,8 @@ def made(version, library, folder):
     named = "stlslice.dll" if tag.endswith("win_amd64") else "libstlslice.so.1"
     files = {f"stlslice/{named}": library, f"{info}/LICENSE": os.path.join(HERE, "..", "LICENSE")}
     files.update((f"stlslice/{name}", os.path.join(HERE, "stlslice", name)) for name in ("__init__.py", "py.typed"))
+    if not named.endswith(".dll"):  # the commands are for Linux
+        files.update((f"stlslice_commands/{os.path.basename(it)}", it) for it in sorted(glob.glob(f"{COMMANDS}/*.*")))
     content = {}
     for name, path in files.items():
         with open(path, "rb") as file:
@@ -39,8 +43,12 @@ def made(version, library, folder):
     content[f"{info}/METADATA"] = (
         f"Metadata-Version: 2.1\nName: stlslice\nVersion: {version}\n"
         "Summary: Exact slices of a closed mesh, layer by layer, as numpy arrays\n"
-        "License: MIT\nRequires-Python: >=3.8\nRequires-Dist: numpy >=1.17\n").encode()
+        "License: MIT\nClassifier: Programming Language :: Python :: 3\nClassifier: Typing :: Typed\n"
+        "Requires-Python: >=3.8\nProvides-Extra: numpy\nRequires-Dist: numpy >=1.17 ; extra == 'numpy'\n").encode()
     content[f"{info}/WHEEL"] = f"Wheel-Version: 1.0\nGenerator: stlslice\nRoot-Is-Purelib: false\nTag: {tag}\n".encode()
+    if not named.endswith(".dll"):
+        scripts = "".join(f"stlslice-{it} = stlslice_commands.{it}:run\n" for it in ("sl1", "pngs", "page"))
+        content[f"{info}/entry_points.txt"] = f"[console_scripts]\n{scripts}".encode()
     record = io.StringIO()
     rows = csv.writer(record, lineterminator="\n")
     for name, text in content.items():

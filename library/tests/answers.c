@@ -71,7 +71,7 @@ static void loops(uint32_t k) {
 int main(int count, char **words) {
     CHECK(count == 6);
     static void (*const answers[])(uint32_t) = {image, png, line, loops};
-    stlslice_options options = {0, 0, 0, 0, STLSLICE_FITTED, 0, 0, 0, {0, 0, 0}};
+    stlslice_options options = {0, 0, 0, 0, STLSLICE_FITTED, 0, 0, 0, {0, 0, 0}, 0, {0, 0}, {0, 0}};
     uint32_t *const numbers[] = {&options.pitch, &options.layer, &options.rule, &options.unit};
     for (int at = 0; at < 4; at++)
         *numbers[at] = (uint32_t)strtoul(words[2 + at], NULL, 10);

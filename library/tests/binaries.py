@@ -17,14 +17,14 @@ from fractions import Fraction
 import stlslice
 
 LIMIT, FARTHEST = 1048576, 128000000
-FACTORS = {"mm": 1000, "inch": 25400}
+FACTORS = {"mm": 1000, "inch": 25400, "cm": 10000, "m": 1000000}
 RULES = ("evenodd", "nonzero", "positive")
 # the bits of: zeros; subnormal numbers; the least normal ones; the greatest; infinities; NaNs, quiet and signalling; 1e38; 128,000
-# and -128,000 with their neighbours; about 5039.37 and -5039.37, the end of the range in inches; half a micrometre, and a
-# sixteenth of a millimetre, with their neighbours
+# and -128,000 with their neighbours; about 5039.37 and -5039.37, the end of the range in inches, 12,800 and 128, in centimetres and
+# metres; half a micrometre, and a sixteenth of a millimetre, with their neighbours
 HOSTILE = [0, 1 << 31, 1, 0x7fffff, 0x807fffff, 0x800000, 0x80800000, 0x7f7fffff, 0xff7fffff, 0x7f800000, 0xff800000, 0x7fc00000,
            0xffc00000, 0x7f800001, 0xff800001, 0x7e967699]
-HOSTILE += [at + step for at in (0x47fa0000, 0xc7fa0000, 0x459d7af6, 0xc59d7af6, 0x3a03126f, 0xba03126f, 0x3d800000, 0xbd800000)
+HOSTILE += [at + step for at in (0x47fa0000, 0xc7fa0000, 0x459d7af6, 0xc59d7af6, 0x46480000, 0x43000000, 0x3a03126f, 0xba03126f, 0x3d800000, 0xbd800000)
             for step in (-1, 0, 1)]
 
 
@@ -135,16 +135,21 @@ def box_of(corners):
 
 def compare(data, dice):
     """Holds the library against the reader for one file. Returns what it had: a fault of which status, or a mesh."""
-    unit = dice.choice(("mm", "mm", "inch"))
+    unit = dice.choice(("mm", "mm", *FACTORS))
     corners, wrong = read(data, FACTORS[unit])
     boxed = outcome(stlslice.box, data, unit)
     if wrong:
         fault = (None, (3, f"stlslice: {wrong}"))
         assert boxed == fault, (boxed, fault)
-        assert outcome(stlslice.open, data, 50, 50, "evenodd", None, unit) == fault
+        assert outcome(stlslice.open, data, 50, 50, "evenodd", None, unit) == outcome(stlslice.read, data, unit) == fault
         return wrong.split(" at ")[0].split(": ")[-1]
     box = box_of(corners)
     assert boxed == (box, None), (boxed, box)
+    facets = stlslice.read(data, unit)
+    assert [tuple(map(int, corner)) for facet in facets for corner in facet] == corners, facets
+    numbers = [struct.unpack_from("<9f", data, at) for at in range(96, len(data), 50)]
+    told = stlslice.micrometres([it[at:at + 3] for it in numbers for at in (0, 3, 6)], unit)
+    assert [tuple(map(int, point)) for point in told] == corners, told
     size = max(high - low for low, high in zip(box.low, box.high))
     setup = (min(100000, max(1, size // dice.choice((7, 30)))), min(100000, max(1, size // dice.choice((3, 20)))), dice.choice(RULES))
     triangles = [(at, at + 1, at + 2) for at in range(0, len(corners), 3)]

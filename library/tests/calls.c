@@ -31,7 +31,7 @@ static const uint32_t triangles[12] = {0, 2, 1, 0, 1, 3, 0, 3, 2, 1, 2, 3};
 #define BINARY_SIZE (84 + 4 * 50)
 static const uint8_t four[4] = {0, 0, 0x80, 0x40}, infinite[4] = {0, 0, 0x80, 0x7f};
 
-static const stlslice_options millimetre = {1000, 1000, 0, 0, 0, 0, 0, 0, {0, 0, 0}};
+static const stlslice_options millimetre = {1000, 1000, 0, 0, 0, 0, 0, 0, {0, 0, 0}, 0, {0, 0}, {0, 0}};
 
 /* more allocations than any call here has */
 #define TURNS 1000
@@ -126,6 +126,23 @@ static Opening box_of_text(void) {
     return it;
 }
 
+/* the tetrahedron's facets in an array that just has room for them: as of an opening */
+static Opening facets_of_text(void) {
+    Opening it = begun();
+    stlslice_facet facets[5];
+    size_t count = NINE;
+    memset(facets, NINE, sizeof facets);
+    it.status = stlslice_facets((const uint8_t *)tetrahedron, strlen(tetrahedron), STLSLICE_MILLIMETRE, facets, 4, &count, it.line,
+                                sizeof it.line);
+    const bool is_done = it.status == STLSLICE_DONE;
+    CHECK(count == (is_done ? 4 : NINE) && is_nines(facets + (is_done ? 4 : 0), (is_done ? 1 : 5) * sizeof *facets));
+    for (size_t at = 0; is_done && at < 36; at++)
+        CHECK(facets[at / 9].corners[at / 3 % 3][at % 3] == points[3 * triangles[at / 3] + at % 3]);
+    if (is_done)
+        it = box_of_text();
+    return it;
+}
+
 static bool has_line(const Opening *it, const char *line) { return memcmp(it->line, line, strlen(line) + 1) == 0; }
 
 /* whether there is this status and line, and nothing else */
@@ -180,19 +197,19 @@ static Answer judged(stlslice_status status, const Buffer *it, const Wanted *wan
     return answer;
 }
 
-static Answer mask_in(stlslice_mesh *mesh, size_t room) {
+static Answer mask_in(const stlslice_mesh *mesh, size_t room) {
     Buffer it = nines();
     const stlslice_status status = stlslice_mask(mesh, 0, it.bytes, room, &it.size);
     return judged(status, &it, &lowest_mask);
 }
 
-static Answer stripe_in(stlslice_mesh *mesh, size_t room) {
+static Answer stripe_in(const stlslice_mesh *mesh, size_t room) {
     Buffer it = nines();
     const stlslice_status status = stlslice_stripe(mesh, 0, it.bytes, room, &it.size);
     return judged(status, &it, &lowest_stripe);
 }
 
-static Answer png_in(stlslice_mesh *mesh, uint32_t k, uint32_t depth, uint32_t mirrors, size_t room) {
+static Answer png_in(const stlslice_mesh *mesh, uint32_t k, uint32_t depth, uint32_t mirrors, size_t room) {
     Buffer it = nines();
     const stlslice_status status = stlslice_png(mesh, k, depth, mirrors, it.bytes, room, &it.size);
     return judged(status, &it, &lowest_png);
@@ -211,7 +228,7 @@ static bool is_put(const Loops *it) {
     return is_right && is_nines(&it->points[3], sizeof it->points[3]) && is_nines(&it->ends[1], sizeof it->ends[1]);
 }
 
-static Answer loops_in(stlslice_mesh *mesh, size_t points_room, size_t ends_room) {
+static Answer loops_in(const stlslice_mesh *mesh, size_t points_room, size_t ends_room) {
     Loops it;
     memset(&it, NINE, sizeof it);
     const stlslice_status status = stlslice_loops(mesh, 0, it.points, points_room, &it.count, it.ends, ends_room, &it.loops);
@@ -219,26 +236,26 @@ static Answer loops_in(stlslice_mesh *mesh, size_t points_room, size_t ends_room
     return answer;
 }
 
-static Answer mask(stlslice_mesh *mesh) { return mask_in(mesh, 11); }
-static Answer png(stlslice_mesh *mesh) { return png_in(mesh, 0, 1, 0, 102); }
-static Answer stripe(stlslice_mesh *mesh) { return stripe_in(mesh, 44); }
-static Answer loops(stlslice_mesh *mesh) { return loops_in(mesh, 3, 1); }
+static Answer mask(const stlslice_mesh *mesh) { return mask_in(mesh, 11); }
+static Answer png(const stlslice_mesh *mesh) { return png_in(mesh, 0, 1, 0, 102); }
+static Answer stripe(const stlslice_mesh *mesh) { return stripe_in(mesh, 44); }
+static Answer loops(const stlslice_mesh *mesh) { return loops_in(mesh, 3, 1); }
 
-static Answer area(stlslice_mesh *mesh) {
+static Answer area(const stlslice_mesh *mesh) {
     uint64_t pixels = NINE;
     const stlslice_status status = stlslice_area(mesh, 0, &pixels);
     const Answer answer = {status, pixels == (status == STLSLICE_DONE ? 6 : NINE)};
     return answer;
 }
 
-static Answer areas(stlslice_mesh *mesh) {
+static Answer areas(const stlslice_mesh *mesh) {
     uint64_t pixels[2] = {NINE, NINE};
-    const stlslice_status status = stlslice_areas(mesh, 0, pixels, 1);
+    const stlslice_status status = stlslice_areas(mesh, 0, 0, pixels, 1);
     const Answer answer = {status, pixels[0] == (status == STLSLICE_DONE ? 6 : NINE) && pixels[1] == NINE};
     return answer;
 }
 
-static Answer probe(stlslice_mesh *mesh) {
+static Answer probe(const stlslice_mesh *mesh) {
     stlslice_rays rays = {NINE, NINE};
     const stlslice_status status = stlslice_probe(mesh, 0, 0, 0, &rays);
     const int32_t wanted = status == STLSLICE_DONE ? 1 : NINE;
@@ -308,9 +325,11 @@ static void each_failed_allocation_of_a_binary_file_is_told(void) { CHECK(failed
 
 static void each_failed_allocation_of_a_box_is_told(void) { CHECK(failed_openings(box_of_text) > 0); }
 
+static void the_facets_of_a_file_are_told(void) { CHECK(failed_openings(facets_of_text) > 0); }
+
 /* fails each allocation in turn, of opening the mesh and of a call on it, until none is left to fail: how many of the call's
  * failed */
-static unsigned long failures(Answer (*call)(stlslice_mesh *)) {
+static unsigned long failures(Answer (*call)(const stlslice_mesh *)) {
     unsigned long failed = 0;
     for (unsigned long number = 1;; number++) {
         CHECK(number < TURNS);
@@ -458,6 +477,7 @@ static const Test tests[] = {
     TEST(each_failed_allocation_of_a_binary_file_is_told),
     TEST(each_failed_allocation_is_told),
     TEST(each_failed_allocation_of_a_box_is_told),
+    TEST(the_facets_of_a_file_are_told),
     TEST(pngs_that_are_refused),
     TEST(what_is_told_without_memory),
     TEST(a_text_that_opens_no_mesh_has_the_program_s_line),

@@ -23,6 +23,7 @@ static const char *const texts[] = {
     "out of memory",
     "the buffer is too small",
     "no mesh was opened, or it was closed",
+    "the part does not fit the screen",
     "no status",
 };
 static const char *const step = "pitch and layer height take 1 to 100000 micrometres";
@@ -58,6 +59,9 @@ static void nulls(void) {
     size_t size = 5, count = 5, end = 5;
     stlslice_point point = {5, 5};
     uint64_t area = 5;
+    stlslice_facet facet;
+    memset(&facet, 5, sizeof facet);
+    const stlslice_facet facet_was = facet;
     memset(&shape, 5, sizeof shape);
     memset(&corners, 5, sizeof corners);
     const stlslice_shape shape_was = shape;
@@ -69,6 +73,13 @@ static void nulls(void) {
     CHECK(strcmp(line, texts[STLSLICE_OUT_OF_RANGE]) == 0);
     CHECK(stlslice_box(text, text_size, 0, NULL, line, sizeof line) == STLSLICE_OUT_OF_RANGE);
     CHECK(stlslice_box(text, text_size, 0, &corners, NULL, 1) == STLSLICE_OUT_OF_RANGE);
+    CHECK(stlslice_facets(NULL, 0, 0, &facet, 1, &size, line, sizeof line) == STLSLICE_TEXT);
+    CHECK(strcmp(line, "input ended before solid") == 0);
+    CHECK(stlslice_facets(NULL, 1, 0, &facet, 1, &size, line, sizeof line) == STLSLICE_OUT_OF_RANGE);
+    CHECK(strcmp(line, texts[STLSLICE_OUT_OF_RANGE]) == 0);
+    CHECK(stlslice_facets(text, text_size, 0, NULL, 1, &size, line, sizeof line) == STLSLICE_OUT_OF_RANGE);
+    CHECK(stlslice_facets(text, text_size, 0, &facet, 1, NULL, line, sizeof line) == STLSLICE_OUT_OF_RANGE);
+    CHECK(stlslice_facets(text, text_size, 0, &facet, 1, &size, NULL, 1) == STLSLICE_OUT_OF_RANGE);
     CHECK(stlslice_open(NULL, 0, &options, &mesh, &shape, line, sizeof line) == STLSLICE_TEXT);
     CHECK(strcmp(line, "input ended before solid") == 0);
     CHECK(stlslice_open(NULL, 1, &options, &mesh, &shape, line, sizeof line) == STLSLICE_OUT_OF_RANGE);
@@ -83,7 +94,7 @@ static void nulls(void) {
     CHECK(stlslice_stripe(NULL, 0, &byte, 1, &size) == STLSLICE_OUT_OF_RANGE);
     CHECK(stlslice_png(NULL, 0, 8, 0, &byte, 1, &size) == STLSLICE_OUT_OF_RANGE);
     CHECK(stlslice_area(NULL, 0, &area) == STLSLICE_OUT_OF_RANGE);
-    CHECK(stlslice_areas(NULL, 0, &area, 1) == STLSLICE_OUT_OF_RANGE);
+    CHECK(stlslice_areas(NULL, 0, 0, &area, 1) == STLSLICE_OUT_OF_RANGE);
     CHECK(stlslice_probe(NULL, 0, 0, 0, &rays) == STLSLICE_OUT_OF_RANGE);
     CHECK(stlslice_loops(NULL, 0, NULL, 0, &size, NULL, 0, &count) == STLSLICE_OUT_OF_RANGE);
     CHECK(stlslice_open(text, text_size, &options, &mesh, &shape, NULL, 0) == STLSLICE_DONE);
@@ -94,11 +105,11 @@ static void nulls(void) {
     CHECK(stlslice_png(&mesh, 0, 8, 0, NULL, 1, &size) == STLSLICE_OUT_OF_RANGE);
     CHECK(stlslice_png(&mesh, 0, 8, 0, &byte, 1, NULL) == STLSLICE_OUT_OF_RANGE);
     CHECK(stlslice_area(&mesh, 0, NULL) == STLSLICE_OUT_OF_RANGE);
-    CHECK(stlslice_areas(&mesh, 0, NULL, 1) == STLSLICE_OUT_OF_RANGE);
-    CHECK(stlslice_areas(&mesh, shape.layers, &area, 1) == STLSLICE_OUT_OF_RANGE);
-    CHECK(stlslice_areas(&mesh, UINT32_MAX, &area, 1) == STLSLICE_OUT_OF_RANGE);
-    CHECK(stlslice_areas(&mesh, shape.layers, NULL, 0) == STLSLICE_DONE);
-    CHECK(stlslice_areas(&mesh, shape.layers + 1, NULL, 0) == STLSLICE_OUT_OF_RANGE);
+    CHECK(stlslice_areas(&mesh, 0, 0, NULL, 1) == STLSLICE_OUT_OF_RANGE);
+    CHECK(stlslice_areas(&mesh, 0, shape.layers, &area, 1) == STLSLICE_OUT_OF_RANGE);
+    CHECK(stlslice_areas(&mesh, 0, UINT32_MAX, &area, 1) == STLSLICE_OUT_OF_RANGE);
+    CHECK(stlslice_areas(&mesh, 0, shape.layers, NULL, 0) == STLSLICE_DONE);
+    CHECK(stlslice_areas(&mesh, 0, shape.layers + 1, NULL, 0) == STLSLICE_OUT_OF_RANGE);
     CHECK(stlslice_probe(&mesh, 0, 0, 0, NULL) == STLSLICE_OUT_OF_RANGE);
     CHECK(stlslice_loops(&mesh, 0, NULL, 1, &size, NULL, 0, &count) == STLSLICE_OUT_OF_RANGE);
     CHECK(stlslice_loops(&mesh, 0, NULL, 0, &size, NULL, 1, &count) == STLSLICE_OUT_OF_RANGE);
@@ -109,10 +120,13 @@ static void nulls(void) {
     for (size_t turn = 0; turn < sizeof vast / sizeof *vast; turn++) {
         const size_t room = vast[turn];
         CHECK(stlslice_box(text, room, 0, &corners, line, sizeof line) == STLSLICE_OUT_OF_RANGE);
+        CHECK(stlslice_facets(text, room, 0, &facet, 1, &size, line, sizeof line) == STLSLICE_OUT_OF_RANGE);
+        CHECK(stlslice_facets(text, text_size, 0, &facet, room / sizeof facet + 1, &size, line, sizeof line) == STLSLICE_OUT_OF_RANGE);
         CHECK(stlslice_open(text, room, &options, &mesh, &shape, line, sizeof line) == STLSLICE_OUT_OF_RANGE);
         memset(line, 'x', sizeof line);
         stlslice_fault_text(STLSLICE_DONE, line, room);
         CHECK(stlslice_box(text, text_size, 0, &corners, line, room) == STLSLICE_OUT_OF_RANGE);
+        CHECK(stlslice_facets(text, text_size, 0, &facet, 1, &size, line, room) == STLSLICE_OUT_OF_RANGE);
         CHECK(stlslice_open(text, text_size, &options, &mesh, &shape, line, room) == STLSLICE_OUT_OF_RANGE);
         CHECK(stlslice_open_mesh(corners_of_four, 4, four, 4, &options, &mesh, &shape, line, room) == STLSLICE_OUT_OF_RANGE);
         for (size_t at = 0; at < sizeof line; at++)
@@ -120,13 +134,14 @@ static void nulls(void) {
         CHECK(stlslice_mask(&mesh, 0, &byte, room, &size) == STLSLICE_OUT_OF_RANGE);
         CHECK(stlslice_stripe(&mesh, 0, &byte, room, &size) == STLSLICE_OUT_OF_RANGE);
         CHECK(stlslice_png(&mesh, 0, 8, 0, &byte, room, &size) == STLSLICE_OUT_OF_RANGE);
-        CHECK(stlslice_areas(&mesh, 0, &area, room / sizeof area) == STLSLICE_OUT_OF_RANGE);
+        CHECK(stlslice_areas(&mesh, 0, 0, &area, room / sizeof area) == STLSLICE_OUT_OF_RANGE);
         CHECK(stlslice_loops(&mesh, 0, &point, room / sizeof point, &size, NULL, 0, &count) == STLSLICE_OUT_OF_RANGE);
         CHECK(stlslice_loops(&mesh, 0, NULL, 0, &size, &end, room / sizeof end, &count) == STLSLICE_OUT_OF_RANGE);
         CHECK(mesh.is_open && memcmp(&corners, &corners_were, sizeof corners) == 0);
     }
     CHECK(size == 5 && count == 5 && end == 5 && area == 5 && byte == 5);
     CHECK(rays.along_x == 5 && rays.along_y == 5 && point.x2 == 5 && point.y2 == 5);
+    CHECK(memcmp(&facet, &facet_was, sizeof facet) == 0);
     /* no room is enough to ask for the size */
     size_t layers = shape.layers < 8 ? shape.layers : 8;
     CHECK(stlslice_mask(&mesh, 0, NULL, 0, &count) == STLSLICE_NO_ROOM && count > shape.rows);
@@ -243,8 +258,8 @@ static void ranges(void) {
         case 3: wrong.layer = UINT32_MAX; break;
         case 4: wrong.rule = 3; break;
         case 5: wrong.rule = UINT32_MAX; break;
-        case 6: wrong.unit = 2; break;
-        case 7: wrong.placing = 2; break;
+        case 6: wrong.unit = STLSLICE_METRE + 1; break;
+        case 7: wrong.placing = 3; break;
         case 8: wrong.placing = UINT32_MAX; break;
         case 9: wrong.placing = STLSLICE_GIVEN; wrong.origin[0] = 128000001; break;
         case 10: wrong.placing = STLSLICE_GIVEN; wrong.origin[1] = INT32_MIN; break;
@@ -257,11 +272,43 @@ static void ranges(void) {
         CHECK(strcmp(line, turn < 4 ? step : texts[STLSLICE_OUT_OF_RANGE]) == 0);
         CHECK(!mesh.is_open && memcmp(&shape, &was, sizeof was) == 0);
     }
+    /* screens, each with its fault, but for the first, which has no such turn */
+    static const struct {
+        uint32_t columns, rows, turn, width[2], depth[2];
+        stlslice_status status;
+        const char *line;
+    } screens[] = {
+        {100, 100, 4, {50, 1}, {50, 1}, STLSLICE_OUT_OF_RANGE, "a number is out of its range, or outside the grid"},
+        {0, 100, 0, {50, 1}, {50, 1}, STLSLICE_OUT_OF_RANGE, "screen has no pixels"},
+        {100, 16385, 0, {50, 1}, {50, 1}, STLSLICE_OUT_OF_RANGE, "screen too large: 100 columns, 16385 rows"},
+        {100, 100, 0, {50, 0}, {50, 1}, STLSLICE_OUT_OF_RANGE, "pixel has no size"},
+        {100, 100, 3, {UINT32_MAX, 1}, {50, 1}, STLSLICE_OUT_OF_RANGE,
+         "no whole number of micrometres up to 100000 is a multiple of both sides of a pixel"},
+        {2, 1, 1, {2000, 1}, {1999, 1}, STLSLICE_OUT_OF_RANGE,
+         "no whole number of micrometres up to 100000 is a multiple of both sides of a pixel"},
+        {1, 2, 0, {2000, 1}, {2000, 1}, STLSLICE_NO_FIT,
+         "part does not fit: 4000 x 4000 micrometres on a screen of 2000 x 4000; turned by a quarter it does not fit either"},
+    };
+    for (size_t at = 0; at < sizeof screens / sizeof *screens; at++) {
+        stlslice_options on = options;
+        on.placing = STLSLICE_SCREEN;
+        on.pitch = 0;
+        on.origin[0] = INT32_MIN;
+        on.columns = screens[at].columns;
+        on.rows = screens[at].rows;
+        on.turn = screens[at].turn;
+        on.width.numerator = screens[at].width[0];
+        on.width.denominator = screens[at].width[1];
+        on.depth.numerator = screens[at].depth[0];
+        on.depth.denominator = screens[at].depth[1];
+        CHECK(stlslice_open_mesh(corners_of_four, 4, four, 4, &on, &mesh, &shape, line, sizeof line) == screens[at].status);
+        CHECK(strcmp(line, screens[at].line) == 0 && !mesh.is_open && memcmp(&shape, &was, sizeof was) == 0);
+    }
     stlslice_options far = options;
     far.placing = STLSLICE_GIVEN;
     CHECK(stlslice_open(text, text_size, &far, &mesh, &shape, line, sizeof line) == STLSLICE_GRID);
     CHECK(strcmp(line, "grid has no cells") == 0);
-    CHECK(stlslice_box(text, text_size, 2, &corners, line, sizeof line) == STLSLICE_OUT_OF_RANGE);
+    CHECK(stlslice_box(text, text_size, STLSLICE_METRE + 1, &corners, line, sizeof line) == STLSLICE_OUT_OF_RANGE);
     CHECK(strcmp(line, texts[STLSLICE_OUT_OF_RANGE]) == 0 && memcmp(&corners, &nines, sizeof nines) == 0);
 }
 
@@ -328,6 +375,39 @@ static void boxes(void) {
     stlslice_close(&mesh);
 }
 
+/* The facets of the text: their number alone; none in a buffer that lacks a place; all in one that just has room for them, with
+ * the corners of the box. One that is refused leaves buffer and number. */
+static void facets(void) {
+    stlslice_corners corners, seen = {0, {INT32_MAX, INT32_MAX, INT32_MAX}, {INT32_MIN, INT32_MIN, INT32_MIN}};
+    size_t count = 5, again = 0;
+    char line[STLSLICE_LINE] = "as before";
+    CHECK(stlslice_box(text, text_size, 0, &corners, NULL, 0) == STLSLICE_DONE);
+    CHECK(stlslice_facets(text, text_size, 0, NULL, 0, &count, line, sizeof line) == STLSLICE_NO_ROOM && count == corners.facets);
+    const size_t size = (count + 1) * sizeof(stlslice_facet);
+    stlslice_facet *list = (stlslice_facet *)malloc(size);
+    CHECK(list != NULL);
+    memset(list, 0x3c, size);
+    CHECK(stlslice_facets(text, text_size, 0, list, count - 1, &again, line, sizeof line) == STLSLICE_NO_ROOM && again == count);
+    CHECK(stlslice_facets(text, 5, 0, list, count, &again, NULL, 0) == STLSLICE_TEXT && again == count);
+    CHECK(stlslice_facets(text, text_size, 4, list, count, &again, NULL, 0) == STLSLICE_OUT_OF_RANGE && again == count);
+    for (size_t at = 0; at < size; at++)
+        CHECK(((const uint8_t *)list)[at] == 0x3c);
+    again = 0;
+    CHECK(stlslice_facets(text, text_size, 0, list, count, &again, line, sizeof line) == STLSLICE_DONE && again == count);
+    CHECK(strcmp(line, "as before") == 0);
+    for (size_t at = 0; at < sizeof *list; at++)
+        CHECK(((const uint8_t *)(list + count))[at] == 0x3c);
+    for (seen.facets = 0; seen.facets < count; seen.facets++)
+        for (int corner = 0; corner < 3; corner++)
+            for (int axis = 0; axis < 3; axis++) {
+                const int32_t number = list[seen.facets].corners[corner][axis];
+                seen.low[axis] = number < seen.low[axis] ? number : seen.low[axis];
+                seen.high[axis] = number > seen.high[axis] ? number : seen.high[axis];
+            }
+    CHECK(memcmp(&seen, &corners, sizeof seen) == 0);
+    free(list);
+}
+
 /* a line that is cut, or has just enough room, ends with 0, and what lies after it is as it was */
 static void lines(void) {
     stlslice_corners corners;
@@ -364,7 +444,7 @@ static void closed(void) {
         CHECK(stlslice_png(&mesh, 0, 8, 0, bytes, sizeof bytes, &size) == STLSLICE_NOT_OPEN);
         CHECK(stlslice_png(&mesh, 0, 9, 9, NULL, 0, &size) == STLSLICE_NOT_OPEN);
         CHECK(stlslice_area(&mesh, 0, &area) == STLSLICE_NOT_OPEN);
-        CHECK(stlslice_areas(&mesh, 0, &area, 1) == STLSLICE_NOT_OPEN);
+        CHECK(stlslice_areas(&mesh, 0, 0, &area, 1) == STLSLICE_NOT_OPEN);
         CHECK(stlslice_probe(&mesh, 0, 0, 0, &rays) == STLSLICE_NOT_OPEN);
         CHECK(stlslice_loops(&mesh, 0, NULL, 0, &size, NULL, 0, &size) == STLSLICE_NOT_OPEN);
         CHECK(size == 5 && area == 5 && rays.along_x == 7 && bytes[0] == 0);
@@ -379,6 +459,7 @@ typedef struct {
     stlslice_corners corners;
     stlslice_shape shape;
     stlslice_point points[1000];
+    stlslice_facet facets[1000];
     size_t ends[100], size, count;
     uint64_t area, areas[3];
 } Told;
@@ -393,7 +474,8 @@ static stlslice_status attempt(int turn, stlslice_mesh *mesh, uint8_t *images, s
     case 4: return stlslice_png(mesh, 3, 8, 0, images, room, &told.size);
     case 5: return stlslice_loops(mesh, 3, told.points, 1000, &told.size, told.ends, 100, &told.count);
     case 6: return stlslice_area(mesh, 3, &told.area);
-    case 7: return stlslice_areas(mesh, 1, told.areas, 3);
+    case 7: return stlslice_areas(mesh, 0, 1, told.areas, 3);
+    case 8: return stlslice_facets(text, text_size, 0, told.facets, 1000, &told.size, line, STLSLICE_LINE);
     default: return stlslice_open_mesh(corners_of_four, 4, four, 4, &options, mesh, &told.shape, line, STLSLICE_LINE);
     }
 }
@@ -412,7 +494,7 @@ static unsigned long short_memory(const char *said) {
     CHECK(stlslice_area(&mesh, 3, &area) == STLSLICE_DONE && area > 0);
     uint8_t *image = (uint8_t *)malloc(one), *images = (uint8_t *)malloc(eight);
     CHECK(image != NULL && images != NULL);
-    for (int turn = 0; turn < 9; turn++) {
+    for (int turn = 0; turn < 10; turn++) {
         CHECK(stlslice_mask(&mesh, 3, image, one, &size) == STLSLICE_DONE);
         for (unsigned long number = 1;; number++) {
             char line[STLSLICE_LINE] = "as before";
@@ -427,7 +509,7 @@ static unsigned long short_memory(const char *said) {
             }
             all++;
             CHECK(status == STLSLICE_MEMORY);
-            CHECK(strcmp(line, turn < 2 || turn == 8 ? said : "as before") == 0);
+            CHECK(strcmp(line, turn < 2 || turn > 7 ? said : "as before") == 0);
             CHECK(memcmp(&told, &before, sizeof told) == 0);
             for (size_t at = 0; at < eight; at++)
                 CHECK(images[at] == 0x3c);
@@ -457,6 +539,7 @@ int main(int count, char **words) {
     ranges();
     pngs();
     boxes();
+    facets();
     lines();
     closed();
     printf("%lu failing allocations\n", short_memory(words[2]));

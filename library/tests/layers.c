@@ -74,7 +74,7 @@ static size_t bits_of(const uint8_t *image, size_t size, const stlslice_shape *s
 }
 
 /* the loops of a layer: given, refused if a buffer is one short, and each of 2 points or more */
-static void loops_of(stlslice_mesh *mesh, uint32_t k) {
+static void loops_of(const stlslice_mesh *mesh, uint32_t k) {
     size_t points = 0, loops = 0, again = 0, more = 0;
     stlslice_status status = stlslice_loops(mesh, k, NULL, 0, &points, NULL, 0, &loops);
     if (points == 0) {
@@ -210,7 +210,7 @@ int main(int count, char **words) {
         for (int axis = 0; axis < 3; axis++)
             options.origin[axis] = (int32_t)strtol(words[10 + axis], NULL, 10);
     }
-    Work first = {NULL, 0, STLSLICE_CLOSED, {{0, {0, 0, 0}, {0, 0, 0}}, 0, 0, 0, {0, 0, 0}}};
+    Work first = {NULL, 0, STLSLICE_CLOSED, {{0, {0, 0, 0}, {0, 0, 0}}, 0, 0, 0, {0, 0, 0}, 0, 0, 0, 0}};
     char line[STLSLICE_LINE];
     stlslice_status status = stlslice_open(text, text_size, &options, &first.mesh, &first.shape, line, sizeof line);
     if (status != STLSLICE_DONE) {

@@ -32,12 +32,6 @@ function quotient(above, below) {
     return Number(is_exact ? whole : whole | 1n) / 2 ** Number(shift);
 }
 
-// A length in micrometres as a fraction of BigInts: "47.25" is 4725/100.
-function fraction(word) {
-    const [whole, part = ""] = String(word).split(".");
-    return [BigInt(whole + part), 10n ** BigInt(part.length)];
-}
-
 // Seconds that a layer is exposed.
 function exposure_of(number, { exposure, first_exposure, fade }) {
     const faded = Math.max(0, number - FIRST + 1);
@@ -54,7 +48,7 @@ const lines_of = (pairs) => Object.keys(pairs).sort().map((key) => `${key} = ${p
 
 // What stands in config.ini: `given` is what was chosen, `slow` how many layers light much of the screen, `lit` the pixels.
 function settings({ given, job, layers, slow, lit, now }) {
-    const { printer, pitch, layer } = given, [[width, a], [depth, b]] = pitch.map(fraction);
+    const { printer, pitch, layer } = given, [[width, a], [depth, b]] = pitch.map((side) => side.map(BigInt));
     let exposures = 0; // one after the other, as a sum of floating-point numbers depends on the order
     for (let number = 0; number < layers; number++) exposures += exposure_of(number, given);
     const moment = new Date(1000 * now).toISOString(), mm = general(layer / 1000);
@@ -71,8 +65,8 @@ function settings({ given, job, layers, slow, lit, now }) {
 
 // What stands in prusaslicer.ini: the screen as it is built in, and the layers.
 function profile({ printer, canvas, pitch, layer, mirror_x, mirror_y, exposure, first_exposure, fade }) {
-    let [columns, rows] = canvas, [width, depth] = pitch.map(fraction);
-    const is_portrait = printer?.orientation === "portrait", mm = general(layer / 1000);
+    let [columns, rows] = canvas, [width, depth] = pitch.map((side) => side.map(BigInt));
+    const is_portrait = printer?.is_portrait ?? false, mm = general(layer / 1000);
     if (is_portrait) [columns, rows, width, depth] = [rows, columns, depth, width];
     const length = (count, [above, below]) => general(quotient(BigInt(count) * above, below * 1000n), 10);
     return lines_of({

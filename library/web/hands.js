@@ -4,8 +4,8 @@ by("file").onchange = () => take_files(by("file").files);
 by("file").onclick = () => { by("file").value = ""; };
 by("form").onsubmit = (it) => { it.preventDefault(); slice(); };
 by("form").onchange = () => {
-    keep();
     lay_form();
+    keep();
     slice();
 };
 by("archive").onsubmit = (it) => it.preventDefault();
@@ -107,6 +107,7 @@ for (const { name, title, packed } of data.demos) {
     by("demos").append(button);
 }
 
+for (const { model, name } of data.printers) by("printer").add(new Option(name, model), by("printer").lastElementChild);
 restore();
 by("keys").open = matchMedia("(min-width: 50.01rem) and (min-height: 55rem)").matches;
 new ResizeObserver(() => { draw(); plot(); refine(); }).observe(by("image"));

@@ -22,7 +22,9 @@ const slice = latest(async (is_last) => {
     begin_wait(`Slicing ${of.name}`);
     try {
         // also if another is wished by now, since the worker has this mesh
-        took(await slicer.open(options, of), options, of);
+        const told = await slicer.open(options, of);
+        refuse_high(options, told);
+        took(told, options, of);
     } catch (fault) {
         if (is_last() && part === of) refused(fault, of);
     } finally {
@@ -32,7 +34,8 @@ const slice = latest(async (is_last) => {
 
 function took(told, options, of) {
     const height = opened && opened.of === of ? height_of(k_now()) : null;
-    opened = { ...told, options, of };
+    const pitch = options.screen?.pitch ?? [[options.pitch, 1], [options.pitch, 1]];
+    opened = { ...told, options, of, sides: pitch.map(([above, below]) => above / below) }; // of a pixel, in micrometres
     shown = null;
     areas = [];
     look = { zoom: 1, x: 0, y: 0 };
@@ -46,6 +49,12 @@ function took(told, options, of) {
     show();
     look_there("image");
     find_areas();
+}
+
+// A printer has a height too, which the library does not know.
+function refuse_high({ screen }, { low, high }) {
+    const height = high[2] - low[2], most = screen?.printer?.height ?? Infinity;
+    if (height > most) throw new Error(`the part doesn't fit: it is ${mm(height)} mm high, the ${screen.printer.model} ${mm(most)} mm`);
 }
 
 // Ends what is under way. A part that is being opened is given up, with the worker.
@@ -97,7 +106,7 @@ const find_areas = latest(async (is_last) => {
         }
         return goes_on();
     };
-    if (await each("areas", {}, of?.layers, (more) => {
+    if (await each("areas", { rule: of?.options.rule }, of?.layers, (more) => {
         areas.push(...more);
         plot();
         tell_part();

@@ -1,5 +1,6 @@
 #!/usr/bin/env python3
-"""Makes the page of its parts: one file with the modules, the demo parts and the hints of docs/refused.md in it.
+"""Makes the page of its parts: one file with the modules, the demo parts, the printers of the commands and the hints of
+docs/refused.md in it.
 
     page.py PAGE.html MODULE64.wasm [MODULE32.wasm]
 """
@@ -13,6 +14,11 @@ import zlib
 
 HERE = os.path.dirname(os.path.abspath(__file__))
 ROOT = os.path.dirname(os.path.dirname(HERE))
+sys.path.append(os.path.join(ROOT, "commands"))
+sys.dont_write_bytecode = True
+
+from stlslice_commands.printers import printers  # noqa: E402
+
 # Scripts, joined in this order; a name that one declares is seen in all of its list.
 ON_PAGE = ["page", "slicer", "settings", "screens", "hints", "view", "plot", "saving", "hands"]
 IN_WORKER = ["worker", "parts", "picture", "zip", "formats"]
@@ -65,10 +71,16 @@ def demo(name):
     return {"name": f"{name}.stl", "title": name.replace("_", " "), "packed": packed(part)}
 
 
+def printer(it):
+    """A printer's screen and exposures. Lengths are micrometres, and the sides of a pixel fractions of whole numbers."""
+    told = {name: value for name, value in vars(it).items() if name not in ("columns", "rows", "width", "depth", "source")}
+    return {**told, "canvas": it.canvas(), "pitch": [[side.numerator, side.denominator] for side in it.pitch()], "height": float(it.height)}
+
+
 def main():
     page, *modules = sys.argv[1:]
     data = {"modules": [{"bits": bits, "packed": packed(path)} for bits, path in zip((64, 32), modules)],
-            "demos": [demo(it) for it in DEMOS], "hints": hints()}
+            "demos": [demo(it) for it in DEMOS], "hints": hints(), "printers": list(map(printer, printers().values()))}
     words = json.dumps(data, ensure_ascii=False, separators=(",", ":")).replace("</", "<\\/")
     parts = {"STYLE": text_of(HERE, "style.css"), "WORKER": script_of(IN_WORKER), "PAGE": script_of(ON_PAGE),
              "DATA": f'<script type="application/json" id="data">{words}</script>'}

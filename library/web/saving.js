@@ -3,10 +3,12 @@
 const ADDING = 100; // milliseconds in which the worker adds layers before it looks for another call
 const LINKED = 60000; // milliseconds after which a saved file may be forgotten
 
+const mirrors_asked = ({ x, y }) => Number(x) + 2 * Number(y); // as the library's call takes them
+
 // Saves the layer of the slider.
 async function save() {
     let k = 0;
-    const png = await asked("png", () => ({ k: k = k_now() }));
+    const png = await asked("png", () => ({ k: k = k_now(), mirrors: mirrors_asked(mirrors_now()) }));
     if (png) download(png, `${stem(opened.of.name)}_${String(k).padStart(5, "0")}.png`);
 }
 
@@ -18,7 +20,7 @@ function moment() {
 // Saves all layers as an `archive`, or as a zip of PNGs. Another call ends it, and so does another mesh.
 const save_all = latest(async (is_last, kind) => {
     const of = opened;
-    if (!kind || !of || !by("archive").reportValidity()) return;
+    if (!kind || !of || !is_archive_right()) return;
     const is_archive = kind === "archive", name = `${stem(of.of.name)}${is_archive ? ".sl1" : "_pngs.zip"}`;
     const goes_on = () => of === opened && is_last();
     begin_wait(`Saving ${name}`);
@@ -28,11 +30,21 @@ const save_all = latest(async (is_last, kind) => {
             done = await slicer.call("add_layers", { milliseconds: ADDING });
         if (goes_on()) download(await slicer.call("whole_zip"), name);
     } catch (fault) {
-        if (of === opened) fault.stopped ? refused(fault, of.of) : warn(`${name} is not saved: ${fault.message}`);
+        if (of !== opened) return;
+        if (fault.stopped) return refused(fault, of.of);
+        warn(`${name} is not saved: ${fault.message}`);
+        by("warnings").scrollIntoView({ block: "nearest" });
     } finally {
         end_wait();
     }
 });
+
+// A wrong field is shown, which a browser does not do where it is folded away.
+function is_archive_right() {
+    const details = by("archive").querySelector("details");
+    details.open ||= !by("archive").checkValidity();
+    return by("archive").reportValidity();
+}
 
 function download(blob, name) {
     const link = element("a");

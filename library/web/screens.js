@@ -3,8 +3,8 @@
 const TOOLS = ["nearer", "farther", "whole", "save", "up", "down", "save_pngs", "save_archive"];
 const grouped = (it) => it.toLocaleString("en-US");
 const mm = (micrometres) => (micrometres / 1000).toFixed(3);
-const square_mm = (pixels) => pixels * opened.options.pitch ** 2 / 1e6;
-const millilitres = (pixels) => (pixels * opened.options.pitch ** 2 * opened.options.layer / 1e12).toFixed(3);
+const square_mm = (pixels) => pixels * opened.sides[0] * opened.sides[1] / 1e6;
+const millilitres = (pixels) => (pixels * opened.sides[0] * opened.sides[1] * opened.options.layer / 1e12).toFixed(3);
 const sum = (numbers) => numbers.reduce((all, it) => all + it, 0);
 const sizes = () => [0, 1, 2].map((it) => opened.high[it] - opened.low[it]);
 
@@ -21,7 +21,7 @@ function clear_views() {
     for (const id of ["welcome", "fault"]) by(id).hidden = true;
     for (const id of TOOLS) by(id).disabled = !opened;
     by("layer").disabled = !opened;
-    by("save_archive").hidden = !opened?.options.canvas;
+    by("save_archive").hidden = !opened?.options.screen;
     draw();
     plot();
 }
@@ -52,12 +52,12 @@ function end_wait() {
 // ---- the part and its layer
 
 function tell_part() {
-    const { facets, columns, rows, layers, took: time, of } = opened;
+    const { facets, columns, rows, sides, layers, took: time, of } = opened;
     by("part").hidden = false;
     by("name").textContent = of.name;
     const told = [["Size, mm", sizes().map(mm).join(" × ")],
         ["Facets", grouped(facets) + (of.is_binary ? ", from a binary file" : "")],
-        ["Pixels", `${grouped(columns)} × ${grouped(rows)}`], ["Layers", grouped(layers)],
+        ["Pixels", `${grouped(columns)} × ${grouped(rows)} of ${[...new Set(sides)].join(" × ")} µm`], ["Layers", grouped(layers)],
         ["Volume", areas.length === layers ? `${millilitres(sum(areas))} ml` : `… layer ${grouped(areas.length)}`],
         ["Opened in", `${time.toFixed(0)} ms`]];
     by("facts").replaceChildren(...told.flatMap(([name, value]) => [element("dt", name), element("dd", value)]));
@@ -65,6 +65,10 @@ function tell_part() {
 
 function tell_command() {
     if (!opened) return;
+    const { layer, screen } = opened.options, usual = screen?.printer ?? null;
+    const is_of_others = usual && usual.layer !== layer && by("exposure").value === "";
+    by("exposed").textContent = is_of_others ? `${usual.exposure} s is the exposure of ${usual.material}, whose layers are `
+        + `${usual.layer} µm high: for layers of ${layer} µm give another.` : "";
     const pieces = (word) => word.match(/[^,]+,?/g).flatMap((it) => [classed("whole", it), element("wbr")]);
     by("command").replaceChildren(...command_of(opened).flatMap((it) => it.startsWith("--") ? [...pieces(it), " "] : [it, " "]));
 }
@@ -110,7 +114,7 @@ async function look_at_shells(of, each) {
         warn(`No pixel is lit by ${name}: is the part inside out (try nonzero), or its unit another than ${UNITS[unit]}?`);
     if (rule !== positive) return;
     let others = 0;
-    if (await each("other_areas", { rule: nonzero }, of.layers, (more) => { others += sum(more); }) && lit && others !== lit)
+    if (await each("areas", { rule: nonzero }, of.layers, (more) => { others += sum(more); }) && lit && others !== lit)
         warn(`A shell is inside out somewhere: ${millilitres(lit)} ml by positive, ${millilitres(others)} ml by nonzero; look at `
             + "the layers.");
 }
@@ -131,7 +135,8 @@ function refused(fault, of) {
     by("fault_line").textContent = fault.message;
     const kind = fault.status ? advice(of.kind, of.name) : [], anew = "Change an option or choose a part to start it anew.";
     // a line of a file that is no text says nothing
-    by("fault_place").textContent = kind.length ? "" : fault.place ?? edge_in(fault.message) ?? (fault.stopped ? anew : "");
+    by("fault_place").textContent = kind.length ? ""
+        : fault.place ?? edge_in(fault.message) ?? fit_in(fault.message) ?? (fault.stopped ? anew : "");
     const found = kind.length || !fault.status ? kind : hints_for(fault.message, of.kind, fault.telling);
     const head = found.length > 1 ? "What this is, in most files:" : "What this is:";
     by("hints").replaceChildren(...found.length ? [element("h3", head)] : [], ...found.map((it) => hint(it, found.length < 3)));
@@ -143,6 +148,14 @@ function edge_in(line) {
     const found = /^open edge (\S+) (\S+) (\S+) to (\S+) (\S+) (\S+) /.exec(line);
     const point = (at) => found.slice(at, at + 3).map(mm).join(", ");
     return found && `The edge from ${point(1)} to ${point(4)} mm. There may be more.`;
+}
+
+// What does not fit, in millimetres, and whether a turn helps.
+function fit_in(line) {
+    const found = /^part does not fit: (\d+) x (\d+) micrometres on a screen of (\d+) x (\d+); (.* it fits)?/.exec(line);
+    const [width, depth, screen_width, screen_depth] = found?.slice(1).map(mm) ?? [], turn = by("turn").checked ? "not turned" : "turned";
+    return found && `On this screen the part is ${width} × ${depth} mm, and the screen ${screen_width} × ${screen_depth} mm.`
+        + (found[5] ? ` It fits if it is ${turn} by a quarter (below Printer).` : "");
 }
 
 function hint({ title, words, command, systems }, is_open) {

@@ -1,12 +1,14 @@
 // What is chosen by hand: the form's options, which are kept from one visit to the next, and the command for the same.
 
 const UNITS = ["mm", "inch", "cm", "m"];
-const KEPT = ["pitch", "height", "rule", "unit", "grid", "columns", "rows", "mirror_x", "mirror_y", "exposure", "first_exposure",
-    "fade", "material", "outlines"];
-// What PrusaSlicer takes if nothing is given: seconds, and the percentage of the screen from which a layer is slow.
-const USUAL = { fast_tilt: 5, slow_tilt: 8, area_fill: 50 };
+const KEPT = ["printer", "pitch", "height", "rule", "unit", "columns", "rows", "width", "depth", "turn", "mirror_x", "mirror_y",
+    "exposure", "first_exposure", "fade", "material", "outlines"];
+// What `stlslice-sl1` takes if nothing is given: seconds, layers, and the percentage of the screen from which a layer is slow.
+const USUAL = { exposure: 2.2, first_exposure: 25, fade: 10, material: "", fast_tilt: 5, slow_tilt: 8, area_fill: 50 };
+const GIVEN = ["exposure", "first_exposure", "fade", "material"]; // fields that are empty if what is usual is wanted
 
 const is_box = (it) => it.type === "checkbox";
+const number_in = (id) => by(id).valueAsNumber;
 
 // A page from disk may have no storage. What is kept is then the form's as the page has it.
 function storage() {
@@ -44,55 +46,84 @@ function restore() {
     lay_form();
 }
 
-// Fields of a canvas are seen and looked at only if there is one: a wrong one that is hidden would stop each opening.
+// The printer that is chosen by name, or none.
+const printer_now = () => data.printers.find(({ model }) => model === by("printer").value) ?? null;
+
+// Fields are seen and looked at only where they count: a wrong one that is hidden would stop each opening.
 function lay_form() {
-    const has_canvas = by("grid").value === "canvas";
-    for (const id of ["canvas_label", "archive"]) by(id).hidden = !has_canvas;
-    for (const id of ["columns", "rows"]) by(id).disabled = !has_canvas;
+    const kind = { "": ["none"], own: ["screen", "own"] }[by("printer").value] ?? ["screen"];
+    for (const it of document.querySelectorAll("[data-of]")) {
+        it.hidden = !kind.includes(it.dataset.of);
+        for (const field of it.querySelectorAll("input")) field.disabled = it.hidden;
+    }
+    const usual = printer_now() ?? USUAL;
+    for (const id of GIVEN) by(id).placeholder = usual[id] === "" ? "resin" : usual[id];
+}
+
+// A length in micrometres as a fraction in lowest terms: "47.25" is 189/4.
+function fraction_of(word) {
+    const [whole, part = ""] = word.split("."), below = 10 ** part.length, above = Number(whole + part);
+    const divisor = (a, b) => b ? divisor(b, a % b) : a;
+    return [above, below].map((it) => it / divisor(above, below));
+}
+
+// The screen of the form. Its turn are quarters: the images of a screen in portrait are turned, and so the part on it.
+function screen_now() {
+    if (!by("printer").value) return null;
+    const printer = printer_now(), turn = Number(printer?.is_portrait ?? false) + Number(by("turn").checked);
+    if (printer) return { printer, canvas: printer.canvas, pitch: printer.pitch, turn };
+    const pitch = ["width", "depth"].map((id) => fraction_of(by(id).value));
+    return { printer, canvas: [number_in("columns"), number_in("rows")], pitch, turn };
 }
 
 function options_now() {
-    const number = (id) => by(id).valueAsNumber;
-    const options = { pitch: number("pitch"), layer: number("height") };
+    const screen = screen_now(), options = { layer: number_in("height"), ...screen ? { screen } : { pitch: number_in("pitch") } };
     for (const id of ["rule", "unit"]) options[id] = by(id).selectedIndex;
-    if (by("grid").value === "canvas") options.canvas = [number("columns"), number("rows")];
     return options;
 }
 
-// Whether the opened part's images are mirrored: those of a canvas may be.
+// Whether the opened part's images are mirrored: those of a screen may be.
 function mirrors_now() {
-    const has_canvas = Boolean(opened.options.canvas);
-    return { x: has_canvas && by("mirror_x").checked, y: has_canvas && by("mirror_y").checked };
+    const { screen } = opened.options, chosen = (id) => screen?.printer ? screen.printer[id] : Boolean(screen) && by(id).checked;
+    return { x: chosen("mirror_x"), y: chosen("mirror_y") };
 }
 
 // What the archive of the opened part has beside its images.
 function archive_now() {
-    const { pitch, layer, canvas } = opened.options, { x, y } = mirrors_now(), number = (id) => Number(by(id).value);
-    return { ...USUAL, printer: null, canvas, pitch: [pitch, pitch], layer, mirror_x: x, mirror_y: y, exposure: number("exposure"),
-        first_exposure: number("first_exposure"), fade: number("fade"), material: by("material").value };
+    const { layer, screen } = opened.options, { x, y } = mirrors_now(), usual = screen?.printer ?? USUAL, given = {};
+    for (const id of GIVEN) given[id] = by(id).value === "" ? usual[id] : id === "material" ? by(id).value : Number(by(id).value);
+    return { ...usual, ...given, ...screen, layer, mirror_x: x, mirror_y: y };
 }
+
+// ---- the command
 
 const stem = (name) => name.replace(/(\.stl)?\.\w+$/i, "");
 const quoted = (word) => /^[\w@%+=:,./-]+$/.test(word) ? word : `'${word.replaceAll("'", "'\\''")}'`;
 // a name that begins with a minus would be taken for an option
 const named = (name) => quoted(name.startsWith("-") ? `./${name}` : name);
 
-// The words of the command that makes the same layers of the same file: those of a canvas as an archive. The program reads
-// no binary file, and without a canvas no command takes cm or m.
-function command_of({ options: { pitch, layer, rule, unit, canvas }, grid, of }) {
-    const name = named(of.name), words = [`--pitch ${pitch}`, `--layer ${layer}`, `--rule ${by("rule").options[rule].text}`];
+// The words of the command that makes the same layers of the same file: those of a screen as an archive. The program reads
+// no binary file, and takes no cm or m.
+function command_of({ options: { pitch, layer, rule, unit, screen }, of }) {
+    const name = named(of.name), words = [`--layer ${layer}`, `--rule ${by("rule").options[rule].text}`];
     if (unit) words.push(`--unit ${UNITS[unit]}`);
-    if (canvas) return ["stlslice-sl1", ...words, `--canvas ${canvas.join("x")}`, ...archive_words(), name, named(`${stem(of.name)}.sl1`)];
-    if (unit > 1) return ["for cm and m choose a canvas"];
-    if (of.is_binary) return ["stlslice-page", ...words, name, named(`${stem(of.name)}.html`)];
-    if (grid) words.push(`--grid=${grid.join(",")}`);
+    if (screen) return ["stlslice-sl1", ...words_of(screen), ...words, ...archive_words(), name, named(`${stem(of.name)}.sl1`)];
+    words.unshift(`--pitch ${pitch}`);
+    if (of.is_binary || unit > 1) return ["stlslice-page", ...words, name, named(`${stem(of.name)}.html`)];
     return ["stlslice", ...words, `< ${name}`];
 }
 
-// Words for what is not as the command has it by itself.
+function words_of({ printer, canvas, pitch }) {
+    const turn = by("turn").checked ? ["--turn"] : [];
+    if (printer) return [`--printer ${printer.model}`, ...turn];
+    const [width, depth] = pitch.map(([above, below]) => above / below), mirrors = ["mirror_x", "mirror_y"].filter((id) => by(id).checked);
+    return [`--canvas ${canvas.join("x")}`, `--pitch ${width === depth ? width : `${width}x${depth}`}`, ...turn,
+        ...mirrors.map((id) => `--${id.replace("_", "-")}`)];
+}
+
+// Words for what is given in place of what is usual.
 function archive_words() {
-    const given = (id, usual) => Number(by(id).value) === usual ? [] : [`--${id.replace("_", "-")} ${by(id).value}`];
-    const mirrors = ["mirror_x", "mirror_y"].filter((id) => by(id).checked).map((id) => `--${id.replace("_", "-")}`);
-    const material = by("material").value ? [`--material ${quoted(by("material").value)}`] : [];
-    return [...mirrors, ...given("exposure", 2.2), ...given("first_exposure", 25), ...given("fade", 10), ...material];
+    const word = (id) => id === "fade" ? number_in(id) : quoted(by(id).value);
+    const joint = (id) => by(id).value.startsWith("-") ? "=" : " ";
+    return GIVEN.filter((id) => by(id).value !== "").map((id) => `--${id.replace("_", "-")}${joint(id)}${word(id)}`);
 }

@@ -21,18 +21,18 @@ function fitted(canvas) {
     return { pen, width, height };
 }
 
-// The width of an image's pixel in screen pixels, the place of the image's first corner, and whether it is mirrored, as on
-// a printer's screen.
+// Width and height of an image's pixel in screen pixels, the place of the image's first corner, its size, and whether it is
+// mirrored, as on a printer's screen.
 function framed() {
-    const { width, height } = by("image"), { columns, rows } = opened, { x, y } = mirrors_now();
-    const scale = Math.min(width / columns, height / rows) * MARGIN * look.zoom;
-    const place = (room, size, moved) => (room - scale * size) / 2 + moved * dense();
-    return { scale, left: place(width, columns, look.x), top: place(height, rows, look.y), x, y };
+    const { width, height } = by("image"), { columns, rows, sides } = opened, { x, y } = mirrors_now();
+    const fit = Math.min(width / (columns * sides[0]), height / (rows * sides[1])) * MARGIN * look.zoom;
+    const [across, down] = sides.map((it) => fit * it), wide = across * columns, high = down * rows;
+    return { across, down, left: (width - wide) / 2 + look.x * dense(), top: (height - high) / 2 + look.y * dense(), wide, high, x, y };
 }
 
 // How many of the image's pixels along a side one of the picture stands for, so that there is no more than is seen.
 function side_now() {
-    const { scale } = framed();
+    const { across, down } = framed(), scale = Math.max(across, down);
     let side = 1;
     while (side < MOST_SIDE && 2 * side * scale <= 1) side *= 2;
     return side;
@@ -57,37 +57,36 @@ function draw() {
     const { pen, width, height } = fitted(by("image"));
     by("image").style.touchAction = look.zoom > 1 ? "none" : "pan-y";
     if (!shown || !opened) return;
-    const frame = framed(), { scale, left, top } = frame, { columns, rows } = opened, { side, picture, bits } = shown;
-    if (bits && scale * side > 1) draw_bits(pen, width, height, frame);
+    const frame = framed(), { across, down, left, top, wide, high } = frame, { side, picture, bits } = shown;
+    const is_coarse = bits && side * Math.max(across, down) > 1;
+    if (is_coarse) draw_bits(pen, width, height, frame);
     mirror(pen, frame);
-    if (!bits || scale * side <= 1) {
-        pen.imageSmoothingEnabled = scale * side < 1;
-        pen.imageSmoothingQuality = "high";
-        pen.drawImage(picture, left, top, scale * side * picture.width, scale * side * picture.height);
+    if (!is_coarse) {
+        pen.imageSmoothingEnabled = side * Math.min(across, down) < 1;
+        pen.drawImage(picture, left, top, across * side * picture.width, down * side * picture.height);
     }
-    pen.strokeStyle = css("line");
+    pen.strokeStyle = css("edge");
     pen.lineWidth = dense();
-    pen.strokeRect(left, top, scale * columns, scale * rows);
+    pen.strokeRect(left, top, wide, high);
     if (by("outlines").checked) draw_outlines(pen, frame);
 }
 
-function mirror(pen, { scale, left, top, x, y }) {
-    const { columns, rows } = opened;
-    pen.setTransform(x ? -1 : 1, 0, 0, y ? -1 : 1, x ? 2 * left + scale * columns : 0, y ? 2 * top + scale * rows : 0);
+function mirror(pen, { left, top, wide, high, x, y }) {
+    pen.setTransform(x ? -1 : 1, 0, 0, y ? -1 : 1, x ? 2 * left + wide : 0, y ? 2 * top + high : 0);
 }
 
 // The image itself, if the picture is too coarse: each screen pixel shows the image's pixel below its middle.
-function draw_bits(pen, width, height, { scale, left, top, x, y }) {
+function draw_bits(pen, width, height, { across, down, left, top, x, y }) {
     const { columns, rows } = opened, { bits } = shown, stride = columns + 7 >> 3;
     const dots = pen.createImageData(width, height), colours = new Uint32Array(dots.data.buffer);
     const empty = dot_of(colour_of("ground")), filled = dot_of(colour_of("body"));
-    const at = (place, first, count, is_mirrored) => {
+    const at = (place, first, scale, count, is_mirrored) => {
         const found = Math.floor((place + 0.5 - first) / scale);
         return found < 0 || found >= count ? -1 : is_mirrored ? count - 1 - found : found;
     };
-    const column = Int32Array.from({ length: width }, (_, u) => at(u, left, columns, x));
+    const column = Int32Array.from({ length: width }, (_, u) => at(u, left, across, columns, x));
     for (let v = 0; v < height; v++) {
-        const j = at(v, top, rows, y);
+        const j = at(v, top, down, rows, y);
         for (let u = 0; j >= 0 && u < width; u++) {
             const i = column[u];
             if (i >= 0) colours[v * width + u] = bits[j * stride + (i >> 3)] << (i & 7) & 128 ? filled : empty;
@@ -96,12 +95,12 @@ function draw_bits(pen, width, height, { scale, left, top, x, y }) {
     pen.putImageData(dots, 0, 0);
 }
 
-function draw_outlines(pen, { scale, left, top }) {
+function draw_outlines(pen, { across, down, left, top }) {
     const { points, ends, rims } = shown.outlines, paths = { rim: new Path2D(), hole: new Path2D() };
     rims.forEach((is_rim, loop) => {
         const path = paths[is_rim ? "rim" : "hole"];
         for (let it = loop ? ends[loop - 1] : 0, first = it; it < ends[loop]; it++) {
-            const x = left + points[2 * it] * scale, y = top + points[2 * it + 1] * scale;
+            const x = left + points[2 * it] * across, y = top + points[2 * it + 1] * down;
             it === first ? path.moveTo(x, y) : path.lineTo(x, y);
         }
         path.closePath();
@@ -129,24 +128,32 @@ function zoom(factor, u = 0, v = 0) {
 // Moves an image that is zoomed, but not out of sight.
 function pan(x, y) {
     if (!opened || look.zoom === 1) return;
-    const { scale } = framed(), { clientWidth, clientHeight } = by("image");
+    const { wide, high } = framed(), { clientWidth, clientHeight } = by("image");
     const within = (moved, room, size) => {
-        const most = Math.max(0, (room + scale * size / dense()) / 2 - KEPT_SEEN);
+        const most = Math.max(0, (room + size / dense()) / 2 - KEPT_SEEN);
         return Math.max(-most, Math.min(most, moved));
     };
-    look = { ...look, x: within(look.x + x, clientWidth, opened.columns), y: within(look.y + y, clientHeight, opened.rows) };
+    look = { ...look, x: within(look.x + x, clientWidth, wide), y: within(look.y + y, clientHeight, high) };
     draw();
 }
 
 function point_at(it) {
     if (!opened || !shown) return void (by("pointed").textContent = "");
-    const { scale, left, top, x, y } = framed(), { columns, rows, origin, options } = opened;
-    let i = Math.floor((it.offsetX * dense() - left) / scale), j = Math.floor((it.offsetY * dense() - top) / scale);
+    const { across, down, left, top, x, y } = framed(), { columns, rows } = opened;
+    let i = Math.floor((it.offsetX * dense() - left) / across), j = Math.floor((it.offsetY * dense() - top) / down);
     const is_inside = i >= 0 && i < columns && j >= 0 && j < rows;
     if (x) i = columns - 1 - i;
     if (y) j = rows - 1 - j;
-    const up = rows - 1 - j, place = (axis, at) => mm(origin[axis] + (at + 0.5) * options.pitch);
-    by("pointed").textContent = is_inside ? `column ${i}, row ${up} from the bottom; x ${place(0, i)}, y ${place(1, up)} mm` : "";
+    const up = rows - 1 - j, [part_x, part_y] = place_of(i, up).map(mm);
+    by("pointed").textContent = is_inside ? `column ${i}, row ${up} from the bottom; x ${part_x}, y ${part_y} mm` : "";
+}
+
+// Where a pixel's middle lies in the part, in micrometres: on a screen the part is multiplied, and turned by quarters.
+function place_of(i, up) {
+    const { origin, pitch, times, options } = opened;
+    let [x, y] = [i, up].map((at, axis) => (origin[axis] + (at + 0.5) * pitch) / times[axis]);
+    for (let turn = options.screen?.turn ?? 0; turn > 0; turn--) [x, y] = [y, -x];
+    return [x, y];
 }
 
 // ---- fingers and the mouse: one moves the image, or with a finger the layers if the image is whole; two zoom it

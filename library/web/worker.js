@@ -2,12 +2,13 @@
 // a call and a number, and the reply has the same number. Calls run one after the other.
 
 const DONE = 0, MEMORY = 6, NO_ROOM = 7, LINE = 256;
+const FITTED = 0, GIVEN = 1, SCREEN = 2; // where the grid lies
 const AREAS_AT_ONCE = 32; // layers
 
 let library = null; // what the module exports
 let stopped = null; // why no call may be made any more
 let places = null; // the addresses of the calls' small values in the module's memory
-let shape = null; // of the opened mesh, with what it was opened by
+let shape = null; // of the opened mesh, with its rule
 let known = []; // the areas of its layers, as far as they were found
 const buffers = {}; // those that grow, by name
 const moved = []; // what the reply hands over, so that it is not copied
@@ -95,9 +96,9 @@ async function start({ modules }) {
 const streamed = (data) => new ReadableStream({ start: (it) => { it.enqueue(data); it.close(); } });
 const unpacked = (data) => new Response(streamed(data).pipeThrough(new DecompressionStream("deflate"))).arrayBuffer();
 
-// Options have 44 bytes, a mesh 16, a shape or corners at most 56; then come a line and three numbers.
+// Options have 64 bytes, a mesh 16, a shape 80; then come a line and three numbers.
 function small_places() {
-    const sizes = { options: 48, mesh: 16, other: 16, shape: 56, line: LINE, size: 8, count: 8, area: 8 };
+    const sizes = { options: 64, mesh: 16, shape: 80, line: LINE, size: 8, count: 8, area: 8 };
     const total = Object.values(sizes).reduce((sum, size) => sum + size, 0);
     const found = {};
     let at = Number(library.malloc(big(total)));
@@ -109,65 +110,35 @@ function small_places() {
     return found;
 }
 
-// Opens the part's mesh: in the grid that fits it, in a given one, or on a canvas with the part in the middle.
-function open({ pitch, layer, rule, unit, canvas, grid }) {
-    if (UNITS.powers[unit]) with_text(0, (at, size) => box(at, size, 0)); // a fault names a byte of the file as it is
-    return with_text(unit, (at, size, unit) => {
-        const given = grid ?? (canvas ? centred(canvas, box(at, size, unit), pitch, layer) : null);
-        const began = performance.now();
-        open_text(at, size, { pitch, layer, rule, unit }, given, places.mesh);
-        shape = { ...shape_told(), pitch, layer, unit, rule };
-        known = [];
-        return { ...shape, grid: given, took: performance.now() - began, memory: library.memory.buffer.byteLength };
-    });
-}
-
-// Calls a task with the address, the size and the library's unit of the part's text, which is in its memory meanwhile.
-function with_text(unit, task) {
-    const { text, known_unit } = text_in(unit), at = allocated(text.length);
+// Opens the part's mesh: in the grid that fits it, in a given one, or in the middle of a printer's screen.
+function open(options) {
+    const began = performance.now(), at = allocated(file.length);
     try {
-        bytes(at, text.length).set(text);
-        return task(at, text.length, known_unit);
-    } catch (fault) {
-        throw placed(fault, text);
+        bytes(at, file.length).set(file);
+        put_options(options);
+        const status = ask("stlslice_open", big(at), big(file.length), big(places.options), big(places.mesh), big(places.shape),
+            big(places.line), big(LINE));
+        if (status !== DONE) throw placed(new Fault(status, line_told()));
     } finally {
         free(at);
     }
+    shape = { ...shape_told(), rule: options.rule };
+    known = [];
+    return { ...shape, took: performance.now() - began, memory: library.memory.buffer.byteLength };
 }
 
-function open_text(at, size, { pitch, layer, rule, unit }, grid, mesh) {
-    const numbers = [pitch, layer, rule, unit, grid ? 1 : 0, ...(grid ?? [0, 0, 0, 0, 0, 0])], options = view();
-    numbers.forEach((it, i) => options.setInt32(places.options + 4 * i, it, true));
-    told(ask("stlslice_open", big(at), big(size), big(places.options), big(mesh), big(places.shape), big(places.line), big(LINE)));
-}
-
-function box(at, size, unit) {
-    told(ask("stlslice_box", big(at), big(size), unit, big(places.shape), big(places.line), big(LINE)));
-    return corners_told();
-}
-
-function told(status) {
-    if (status !== DONE) throw new Fault(status, line_told());
-}
-
-function corners_told() {
-    const told = view(), whole = (at) => told.getInt32(places.shape + at, true);
-    return { facets: size_at(places.shape), low: [8, 12, 16].map(whole), high: [20, 24, 28].map(whole) };
+// The fields of the library's options have four bytes each.
+function put_options({ pitch = 0, layer, rule, unit, grid, screen }) {
+    const placing = screen ? SCREEN : grid ? GIVEN : FITTED, counts = screen ? [...screen.canvas, 0, 0, 0, 0] : grid ?? [0, 0, 0, 0, 0, 0];
+    const fields = [pitch, layer, rule, unit, placing, ...counts, screen?.turn ?? 0, ...screen?.pitch.flat() ?? [0, 0, 0, 0]];
+    const options = view();
+    fields.forEach((it, i) => options.setInt32(places.options + 4 * i, it, true));
 }
 
 function shape_told() {
-    const told = view(), whole = (at) => told.getInt32(places.shape + at, true);
-    return { ...corners_told(), columns: whole(32), rows: whole(36), layers: whole(40), origin: [44, 48, 52].map(whole) };
-}
-
-// The grid of a canvas with the part in its middle, and as many layers as the part has; one that does not fit is refused.
-function centred([columns, rows], { facets, low, high }, pitch, layer) {
-    const size = [0, 1, 2].map((it) => high[it] - low[it]), mm = (it) => (it / 1000).toFixed(3);
-    if (facets && (size[0] > columns * pitch || size[1] > rows * pitch))
-        throw new Fault(null, `the part doesn't fit: it is ${mm(size[0])} x ${mm(size[1])} mm, the canvas `
-            + `${mm(columns * pitch)} x ${mm(rows * pitch)} mm`);
-    const least = (it, count) => Math.floor((low[it] + high[it] - count * pitch) / 2);
-    return [columns, rows, Math.max(1, Math.ceil(size[2] / layer)), least(0, columns), least(1, rows), low[2]];
+    const told = view(), whole = (at) => told.getInt32(places.shape + at, true), long = (at) => size_at(places.shape + at);
+    return { facets: long(0), low: [8, 12, 16].map(whole), high: [20, 24, 28].map(whole), columns: whole(32), rows: whole(36),
+        layers: whole(40), origin: [44, 48, 52].map(whole), pitch: whole(56), layer: whole(60), times: [64, 72].map(long) };
 }
 
 const row_bytes = () => shape.columns + 7 >> 3;
@@ -185,39 +156,21 @@ function area_of(k) {
     return size_at(places.area);
 }
 
-// The areas of a mesh's layers from this one on, as many as are found in about this time.
-function areas_from(mesh, from, milliseconds) {
+// The areas of the layers from this one on by a rule, as many as are found in about this time.
+function areas_from(from, rule, milliseconds) {
     const end = performance.now() + milliseconds, found = [];
     while (from + found.length < shape.layers && (!found.length || performance.now() < end)) {
         const next = from + found.length, count = Math.min(AREAS_AT_ONCE, shape.layers - next), room = buffer("areas", 8 * AREAS_AT_ONCE);
-        must(ask("stlslice_areas", big(mesh), next, big(room.at), big(count)));
+        must(ask("stlslice_areas", big(places.mesh), rule, next, big(room.at), big(count)));
         for (let k = 0; k < count; k++) found.push(size_at(room.at + 8 * k));
     }
     return found;
 }
 
-function areas({ from, milliseconds }) {
-    const found = areas_from(places.mesh, from, milliseconds);
-    found.forEach((area, k) => { known[from + k] = area; });
+function areas({ from, rule, milliseconds }) {
+    const found = areas_from(from, rule, milliseconds);
+    if (rule === shape.rule) found.forEach((area, k) => { known[from + k] = area; });
     return found;
-}
-
-// The areas by another rule, of the same text in the same grid. It is a mesh of its own, opened for the first of them.
-function other_areas({ from, milliseconds, rule }) {
-    const { columns, rows, layers, origin, unit } = shape;
-    if (!from) with_text(unit, (at, size, unit) => open_text(at, size, { ...shape, rule, unit }, [columns, rows, layers, ...origin], places.other));
-    try {
-        const found = areas_from(places.other, from, milliseconds);
-        if (from + found.length === layers) close_other();
-        return found;
-    } catch (fault) {
-        close_other();
-        throw fault;
-    }
-}
-
-function close_other() {
-    if (!stopped) ask("stlslice_close", big(places.other));
 }
 
 // The layer's loops: the coordinates of all points in half-micrometres, and for each loop the number of points up to its end.
@@ -248,9 +201,9 @@ async function layer({ k, side: wanted, colours }) {
 // The layer's image as a PNG of the library's, white inside the part.
 const png_of = (k, depth, mirrors) => written("png", (at, room) =>
     ask("stlslice_png", big(places.mesh), k, depth, mirrors, at, room, big(places.size)));
-const png = ({ k }) => new Blob([png_of(k, 1, 0)], { type: "image/png" });
+const png = ({ k, mirrors }) => new Blob([png_of(k, 1, mirrors)], { type: "image/png" });
 
-const calls = { start, read, open, layer, areas, other_areas, png, begin_zip, add_layers, whole_zip };
+const calls = { start, read, open, layer, areas, png, begin_zip, add_layers, whole_zip };
 
 async function answer({ id, call, value }) {
     moved.length = 0;

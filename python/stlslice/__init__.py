@@ -15,13 +15,18 @@
         mesh.probe(10, 20, 120)         # signed crossings of the rays along x and y from a voxel's centre
 
 `open` takes a file: binary STL or ASCII STL. The points of `open_mesh` are whole micrometres, and `micrometres` makes them of
-millimetres.
+millimetres. `read` returns the facets of a file. With a canvas a part stands in the middle of a printer's screen, turned by
+quarters, and its images are what the screen shows:
+
+    mesh = stlslice.open("part.stl", canvas=(11520, 5120), pitch=(19, 24), layer=50, turn=1)
+    for png in mesh.pngs(workers=4):
+        ...
 
 A mask is laid out as the program's image: its first row is that of the greatest y. `probe` counts rows from the least y
 up, so the pixel of its column i and row j is `mask[rows - 1 - j, i]`, or `mask[::-1][j, i]`. Lengths are whole micrometres.
 
-What the program refuses raises a `Fault` with the program's status and line. A mesh may be used by several threads: its
-calls wait for each other. Different meshes run at the same time, since a call holds no lock of the interpreter.
+What the program refuses raises a `Fault` with the program's status and line. Several threads may use a mesh, and run at the
+same time, since a call holds no lock of the interpreter.
 
 The work is done by libstlslice, which is called through ctypes. It is the one that the variable STLSLICE_LIBRARY names,
 else the one beside this module, else the one that the system finds. numpy is needed only for masks and loops. With it arrays
@@ -32,37 +37,42 @@ from __future__ import annotations
 
 import array
 import builtins
+import collections
 import ctypes
-import math
+import functools
 import operator
 import os
-import threading
 from fractions import Fraction
-from typing import TYPE_CHECKING, Any, BinaryIO, Callable, Iterator, List, NamedTuple, Optional, Sequence, Tuple, Union, overload
+from typing import (TYPE_CHECKING, Any, BinaryIO, Callable, Deque, Iterator, List, Literal, NamedTuple, Optional, Sequence, Tuple,
+                    Union, get_args)
 
 if TYPE_CHECKING:
     import numpy
 
-__all__ = ["Box", "ClosedFault", "Fault", "MemoryFault", "Mesh", "RangeFault", "box", "micrometres", "open", "open_mesh",
-           "version"]
+__all__ = ["Box", "ClosedFault", "Fault", "FitFault", "MemoryFault", "Mesh", "RangeFault", "box", "micrometres", "open",
+           "open_mesh", "read"]
 
 Source = Union[str, "os.PathLike[str]", bytes, bytearray, memoryview, BinaryIO]
 Triple = Tuple[int, int, int]
 Triples = Union["numpy.ndarray", "array.array[int]", memoryview, Sequence[Sequence[int]]]
 
-RULES = {"evenodd": 0, "nonzero": 1, "positive": 2}
-UNITS = {"mm": 0, "inch": 1}
+Rule = Literal["evenodd", "nonzero", "positive"]    # the library's numbers of these words are their places here
+Unit = Literal["mm", "inch", "cm", "m"]
+Side = Union[int, float, str, Fraction]
+Pitch = Union[Side, Tuple[Side, Side]]
+Numbers = Optional[Sequence[int]]
+
+FACTORS = [1000, 25400, 10000, 1000000]     # micrometres in each unit
 LINE = 256
-STRIPE = 8
 WORD = range(2**32)
 MOST_COORDINATE = 2**31 - 1     # more than any that a mesh may have, and as far as the library's type goes
-OUT_OF_RANGE, MEMORY, NO_ROOM, NOT_OPEN = 1, 6, 7, 8
+DONE, OUT_OF_RANGE, MEMORY, NO_ROOM, NOT_OPEN, NO_FIT = 0, 1, 6, 7, 8, 9
 
 
 class Fault(Exception):
     """Why a call was refused. If file, mesh or grid is at fault, or memory ran out, `status` is 3 to 6. It and `line` are then
-    the program's, but for the line of a binary STL. Else they are the library's own: 1 if a number is out of its range or outside
-    the grid, 8 if the mesh was closed."""
+    the program's, but for the line of a binary STL or a canvas. Else they are the library's own: 1 if a number is out of its
+    range or outside the grid, 8 if the mesh was closed, 9 if the part does not fit the canvas."""
 
     def __init__(self, status: int, text: str) -> None:
         super().__init__(text)
@@ -85,6 +95,10 @@ class ClosedFault(Fault, ValueError):
     """The mesh was closed (status 8)."""
 
 
+class FitFault(Fault):
+    """The part does not fit the canvas (status 9). The line has both sizes, and whether a quarter turn helps."""
+
+
 class Box(NamedTuple):
     """The facets of a file: how many, and their least and greatest x, y and z, in micrometres; zeros if there are none."""
 
@@ -99,20 +113,23 @@ class _Corners(ctypes.Structure):
 
 class _Options(ctypes.Structure):
     _fields_ = [(name, ctypes.c_uint32) for name in ("pitch", "layer", "rule", "unit", "placing", "columns", "rows", "layers")]
-    _fields_ += [("origin", ctypes.c_int32 * 3)]
+    _fields_ += [("origin", ctypes.c_int32 * 3), ("turn", ctypes.c_uint32), ("width", ctypes.c_uint32 * 2), ("depth", ctypes.c_uint32 * 2)]
 
 
 class _Shape(ctypes.Structure):
-    _fields_ = [("corners", _Corners), ("columns", ctypes.c_uint32), ("rows", ctypes.c_uint32),
-                ("layers", ctypes.c_uint32), ("origin", ctypes.c_int32 * 3)]
-
-
-class _Rays(ctypes.Structure):
-    _fields_ = [("along_x", ctypes.c_int32), ("along_y", ctypes.c_int32)]
+    _fields_ = [("corners", _Corners), ("columns", ctypes.c_uint32), ("rows", ctypes.c_uint32), ("layers", ctypes.c_uint32),
+                ("origin", ctypes.c_int32 * 3), ("pitch", ctypes.c_uint32), ("layer", ctypes.c_uint32),
+                ("times_x", ctypes.c_uint64), ("times_y", ctypes.c_uint64)]
 
 
 class _Handle(ctypes.Structure):
+    """A mesh of the library. Each call that uses it holds it, so that it is freed when the last one has ended."""
+
     _fields_ = [("is_open", ctypes.c_bool), ("at", ctypes.c_void_p)]
+
+    def __del__(self) -> None:
+        if _lib is not None:        # it is None when the interpreter ends
+            _lib.stlslice_close(self)
 
 
 def _library() -> ctypes.CDLL:
@@ -128,14 +145,14 @@ def _library() -> ctypes.CDLL:
     for name, words in {
         "version": [],
         "box": [file, size, word, ctypes.POINTER(_Corners), at, size],
+        "facets": [file, size, word, at, size, sized, at, size],
         "open": [file, size, ctypes.POINTER(_Options), handle, ctypes.POINTER(_Shape), at, size],
         "open_mesh": [at, size, at, size, ctypes.POINTER(_Options), handle, ctypes.POINTER(_Shape), at, size],
         "mask": [handle, word, at, size, sized],
-        "stripe": [handle, ctypes.c_uint64, at, size, sized],
         "png": [handle, word, word, word, at, size, sized],
         "area": [handle, word, ctypes.POINTER(ctypes.c_uint64)],
-        "areas": [handle, word, at, size],
-        "probe": [handle, word, word, word, ctypes.POINTER(_Rays)],
+        "areas": [handle, word, word, at, size],
+        "probe": [handle, word, word, word, at],
         "loops": [handle, word, at, size, sized, at, size, sized],
         "fault_text": [word, at, size],
         "close": [handle],
@@ -150,14 +167,21 @@ def _library() -> ctypes.CDLL:
 
 
 _lib = _library()
+_number = _lib.stlslice_version()
+__version__ = f"{_number // 1000000}.{_number // 1000 % 1000}.{_number % 1000}"
 
 
-def _raise(status: int, line: Optional[ctypes.Array[ctypes.c_char]] = None) -> None:
-    if line is None:
-        line = ctypes.create_string_buffer(LINE)
-        _lib.stlslice_fault_text(status, line, LINE)
-    kind = {OUT_OF_RANGE: RangeFault, MEMORY: MemoryFault, NOT_OPEN: ClosedFault}.get(status, Fault)
+def _raise(status: int, line: ctypes.Array[ctypes.c_char]) -> None:
+    kind = {OUT_OF_RANGE: RangeFault, MEMORY: MemoryFault, NOT_OPEN: ClosedFault, NO_FIT: FitFault}.get(status, Fault)
     raise kind(status, line.value.decode("ascii", "replace"))
+
+
+def _call(name: str, *words: Any) -> None:
+    """A call that has a line for its fault."""
+    line = ctypes.create_string_buffer(LINE)
+    status = getattr(_lib, f"stlslice_{name}")(*words, line, LINE)
+    if status:
+        _raise(status, line)
 
 
 def _bytes(source: Source) -> bytes:
@@ -173,11 +197,11 @@ def _bytes(source: Source) -> bytes:
     return source if type(source) is bytes else memoryview(source).tobytes()
 
 
-def _whole(name: str, value: Any, kind: str = "whole numbers") -> int:
+def _whole(name: str, value: Any) -> int:
     try:
         return operator.index(value)
     except TypeError:
-        raise TypeError(f"{name} takes {kind}, and {value!r} is none") from None
+        raise TypeError(f"{name} takes whole numbers, and {value!r} is none") from None
 
 
 def _word(name: str, value: Any) -> int:
@@ -188,10 +212,54 @@ def _word(name: str, value: Any) -> int:
     return number
 
 
-def _choice(name: str, value: str, choices: dict[str, int]) -> int:
-    if value not in choices:
-        raise RangeFault(OUT_OF_RANGE, f"{name} takes {', '.join(choices)}")
-    return choices[value]
+def _choice(name: str, value: str, words: Any) -> int:
+    """The number of a word."""
+    if value not in get_args(words):
+        raise RangeFault(OUT_OF_RANGE, f"{name} takes {', '.join(get_args(words))}")
+    return get_args(words).index(value)
+
+
+def _side(value: Any) -> Tuple[int, int]:
+    """A side of a pixel in micrometres, exactly as its number is written."""
+    try:
+        side = Fraction(str(value)) if 2.0**-32 < float(value) < 2**32 else Fraction()
+    except (TypeError, ValueError, OverflowError):
+        raise TypeError(f"pitch takes numbers, and {value!r} is none") from None
+    if not side or max(side.numerator, side.denominator) not in WORD:
+        raise RangeFault(OUT_OF_RANGE, "pitch is out of its range")
+    return side.numerator, side.denominator
+
+
+def _values(name: str, values: Any, wanted: str) -> List[Any]:
+    """As many values as are wanted, by their names."""
+    found = [] if isinstance(values, str) else list(values)
+    if len(found) != len(wanted.split()):
+        raise RangeFault(OUT_OF_RANGE, f"{name} takes {len(wanted.split())} numbers: {', '.join(wanted.split())}")
+    return found
+
+
+def _options(pitch: Pitch, layer: int, rule: Rule, grid: Numbers, unit: Unit, canvas: Numbers, turn: int) -> _Options:
+    """Options as C has them. The library checks the range of each number."""
+    options = _Options(layer=_word("layer", layer), rule=_choice("rule", rule, Rule), unit=_choice("unit", unit, Unit),
+                       turn=_word("turn", turn))
+    if canvas is not None:
+        if grid is not None:
+            raise RangeFault(OUT_OF_RANGE, "a part on a canvas takes no grid")
+        options.placing = 2
+        options.columns, options.rows = (_word("canvas", it) for it in _values("canvas", canvas, "columns rows"))
+        sides = _values("pitch", pitch, "width depth") if isinstance(pitch, (tuple, list)) else (pitch, pitch)
+        options.width, options.depth = map(_side, sides)
+        return options
+    if turn:
+        raise RangeFault(OUT_OF_RANGE, "a turn takes a canvas")
+    options.pitch = _word("pitch", pitch)
+    if grid is not None:
+        columns, rows, layers, *origin = _values("grid", grid, "columns rows layers x y z")
+        if any(abs(_whole("grid", at)) >= 2**31 for at in origin):
+            raise RangeFault(OUT_OF_RANGE, "grid is out of its range")
+        options.placing, options.origin = 1, tuple(origin)
+        options.columns, options.rows, options.layers = (_word("grid", it) for it in (columns, rows, layers))
+    return options
 
 
 def _numpy() -> Any:
@@ -206,7 +274,9 @@ def _numpy() -> Any:
 def _rows(name: str, values: Any, of_numbers: str) -> Any:
     """Rows of three numbers, as an array of numpy; as a list of all numbers if numpy is missing, or has no type for them."""
     numpy = _numpy()
-    _refuse_masked(name, values, numpy)
+    arrays = values if isinstance(values, (list, tuple)) else [values]
+    if numpy and any(isinstance(row, numpy.ma.MaskedArray) and numpy.ma.is_masked(row) for row in arrays):
+        raise RangeFault(OUT_OF_RANGE, f"{name} has masked numbers")      # which stand for missing ones
     try:
         found = None if numpy is None else numpy.asarray(values)
     except ValueError:
@@ -220,21 +290,11 @@ def _rows(name: str, values: Any, of_numbers: str) -> Any:
     if found.size == 0:
         return numpy.empty((0, 3), numpy.int32)
     if found.dtype.kind not in of_numbers:
-        hint = "; stlslice.micrometres makes them of millimetres" if name == "points" else ""
-        raise TypeError(f"{name} takes {'numbers' if 'f' in of_numbers else 'whole numbers'}, and has {found.dtype}{hint}")
+        wanted, hint = ("numbers", "") if "f" in of_numbers else ("whole numbers", "; stlslice.micrometres makes them of millimetres")
+        raise TypeError(f"{name} takes {wanted}, and has {found.dtype}{hint if name == 'points' else ''}")
     if found.size % 3 or (found.ndim > 1 and found.shape[1:] != (3,)):
         raise RangeFault(OUT_OF_RANGE, f"{name} takes three numbers a row")
     return found.reshape(-1, 3)
-
-
-def _refuse_masked(name: str, values: Any, numpy: Any) -> None:
-    """Refuses an array of numpy, or rows that are such arrays, of which a number is masked: it stands for a missing one."""
-    if numpy is None:
-        return
-    kind = numpy.ma.MaskedArray
-    rows = values if isinstance(values, (list, tuple)) else [values]
-    if any(isinstance(row, kind) and numpy.ma.is_masked(row) for row in rows):
-        raise RangeFault(OUT_OF_RANGE, f"{name} has masked numbers")
 
 
 def _points(values: Triples) -> Tuple[Any, Any, int]:
@@ -245,8 +305,7 @@ def _points(values: Triples) -> Tuple[Any, Any, int]:
         return kept, kept.buffer_info()[0], len(rows) // 3
     numpy = _numpy()
     if rows.dtype.itemsize > 4 or rows.dtype.kind == "u":
-        least = 0 if rows.dtype.kind == "u" else -MOST_COORDINATE
-        rows = numpy.clip(rows, least, min(MOST_COORDINATE, numpy.iinfo(rows.dtype).max))
+        rows = numpy.clip(rows.astype(numpy.float64), -MOST_COORDINATE, MOST_COORDINATE)
     kept = numpy.array(rows, numpy.int32, order="C")
     return kept, kept.ctypes.data, len(kept)
 
@@ -269,36 +328,34 @@ def _triangles(values: Triples) -> Tuple[Any, Any, int]:
     return kept, kept.ctypes.data, len(kept)
 
 
-def _rounded(value: float) -> int:
-    """A number of millimetres in micrometres: the nearest to its exact value, halves away from zero."""
-    size = math.floor(abs(Fraction(value)) * 1000 + Fraction(1, 2))
-    return size if value >= 0 else -size
-
-
-def micrometres(millimetres: Any) -> Any:
-    """Points in whole micrometres, as `open_mesh` takes them, of points in millimetres: rows of three numbers.
+def micrometres(points: Any, unit: Unit = "mm") -> Any:
+    """Points in whole micrometres, as `open_mesh` takes them, of points in millimetres or another unit: rows of three numbers.
 
     A number becomes the micrometre that is nearest to its exact value, halves away from zero. So `open` reads a binary STL, and
-    equal numbers stay equal. Types that are longer than double precision, such as longdouble, are made double first.
-
-    Raises `RangeFault` if a number is not finite, or 2147483.647 mm or more from 0. A mesh takes points at most 128 metres from 0.
-    The result is an array of numpy, or a list of triples if numpy is missing or has no type for the numbers.
+    equal numbers stay equal. Raises `RangeFault` if a number is not finite, or 2147483647 micrometres or more from 0. A mesh takes
+    points at most 128 metres from 0. The result is an array of numpy, or a list of triples if numpy is missing or has no type for
+    the numbers.
     """
-    rows = _rows("millimetres", millimetres, "iuf")
+    rows, factor = _rows("points", points, "iuf"), FACTORS[_choice("unit", unit, Unit)]
     if isinstance(rows, list):
-        numbers = [float(it) if isinstance(it, float) else _whole("millimetres", it, "numbers (float or int)") for it in rows]
-        _all_fit([at for at, it in enumerate(numbers) if not abs(it) * 1000 < MOST_COORDINATE])
-        found = [it * 1000 if isinstance(it, int) else _rounded(it) for it in numbers]
+        try:
+            _all_fit([at for at, it in enumerate(rows) if not abs(it) * factor < MOST_COORDINATE])
+            ratios = [it.as_integer_ratio() for it in rows]
+        except (TypeError, AttributeError, ArithmeticError):
+            raise TypeError("points takes numbers, such as float, int and Fraction") from None
+        sizes = [(2 * factor * abs(over) + under) // (2 * under) for over, under in ratios]
+        found = [size if over > 0 else -size for size, (over, _) in zip(sizes, ratios)]
         return list(zip(found[::3], found[1::3], found[2::3]))
     numpy = _numpy()
     with numpy.errstate(over="ignore", invalid="ignore"):   # what becomes infinite, or is no number, is refused below
-        size = numpy.abs(rows.astype(numpy.float64)) * 1000
-    _all_fit(numpy.flatnonzero(~(size < MOST_COORDINATE)))
-    found = numpy.copysign(numpy.floor(size + 0.5), rows.astype(numpy.float64)).astype(numpy.int32)
-    # a product in double precision may be rounded to a half, or away from one
-    for at in numpy.flatnonzero(numpy.abs(size - numpy.floor(size) - 0.5) <= size * 2.0**-50):
-        found.flat[at] = _rounded(float(rows.flat[at]))
-    return found
+        sizes = numpy.absolute(rows, dtype=numpy.result_type(rows, numpy.float64))
+        high = sizes.astype(numpy.float32).astype(sizes.dtype)
+        more, less = high * factor, (sizes - high) * factor     # exact, since factors are short
+        total = more + less
+    _all_fit(numpy.flatnonzero(~(total < MOST_COORDINATE)))
+    found = total.astype(numpy.int32)
+    found += total - found - 0.5 >= total - more - less     # by how much the total is too large, exactly, is on the right
+    return numpy.negative(found, out=found, where=rows < 0)
 
 
 def _all_fit(wrong: Sequence[int]) -> None:
@@ -306,39 +363,52 @@ def _all_fit(wrong: Sequence[int]) -> None:
         raise RangeFault(OUT_OF_RANGE, f"point {wrong[0] // 3} is out of range")
 
 
-def version() -> str:
-    """The library's version."""
-    number = _lib.stlslice_version()
-    return f"{number // 1000000}.{number // 1000 % 1000}.{number % 1000}"
-
-
-def box(source: Source, unit: str = "mm") -> Box:
+def box(source: Source, unit: Unit = "mm") -> Box:
     """The number and the box of the facets of a file, which is given as in `open`. The mesh need not be closed. Raises a
     `Fault` if the file is no STL that can be read, and `OSError` if it cannot be read at all."""
-    data, corners, line = _bytes(source), _Corners(), ctypes.create_string_buffer(LINE)
-    status = _lib.stlslice_box(data, len(data), _choice("unit", unit, UNITS), corners, line, LINE)
-    if status:
-        _raise(status, line)
+    data, corners = _bytes(source), _Corners()
+    _call("box", data, len(data), _choice("unit", unit, Unit), corners)
     return Box(corners.facets, tuple(corners.low), tuple(corners.high))
 
 
-def open(source: Source, pitch: int = 50, layer: int = 50, rule: str = "evenodd", grid: Optional[Sequence[int]] = None,
-         unit: str = "mm") -> Mesh:
+def read(source: Source, unit: Unit = "mm") -> Any:
+    """The facets of a file, which is given as in `open`, in whole micrometres: for each its three corners, and for each of these
+    x, y and z. They are an array of numpy, or triples of triples in a list if numpy is missing. Raises the faults of `box`, but
+    takes any number of facets."""
+    data, count, numpy = _bytes(source), ctypes.c_size_t(), _numpy()
+    room = len(data) // 50      # a facet of a text is longer than one of a binary STL
+    found = numpy.empty((room, 3, 3), numpy.int32) if numpy else array.array("i", bytes(36 * room))
+    at = found.ctypes.data if numpy else found.buffer_info()[0]
+    _call("facets", data, len(data), _choice("unit", unit, Unit), at, room, count)
+    if numpy:
+        return found[:count.value]
+    numbers = iter(found[:9 * count.value])
+    corners = zip(numbers, numbers, numbers)
+    return list(zip(corners, corners, corners))
+
+
+def open(source: Source, pitch: Pitch = 50, layer: int = 50, rule: Rule = "evenodd", grid: Numbers = None, unit: Unit = "mm",
+         canvas: Numbers = None, turn: int = 0) -> Mesh:
     """Opens a file, binary STL or ASCII STL, as a path, an open binary file or its bytes.
 
     It is a binary STL exactly if it has 84 bytes, and 50 for each facet that it counts at byte 80.
 
     `pitch` is a voxel's length along x and y and `layer` along z, in micrometres. `grid`, if given, has the six numbers
-    of the program's option: columns, rows and layers, then the corner of least x, y and z in micrometres. `unit`, "mm" or
-    "inch", is that of the file's numbers. Raises a `Fault` if the file is no STL that can be read, or if the program would refuse
-    its mesh or an option, and `OSError` if the file cannot be read at all.
+    of the program's option: columns, rows and layers, then the corner of least x, y and z in micrometres. `unit` is that of the
+    file's numbers. Raises a `Fault` if the file is no STL that can be read, or if the program would refuse its mesh or an option,
+    and `OSError` if the file cannot be read at all.
+
+    `canvas`, if given, has the columns and rows of a screen. The part stands in its middle, turned by `turn` quarters,
+    counterclockwise from above, and its lowest point is on the first layer. Then `pitch` may be a fraction, as 47.25, "47.25" or
+    `Fraction(189, 4)`, or a pair of them: a pixel's sides along x and y. A float counts as it is written. Raises a `FitFault` if
+    the part is too large.
     """
     data = _bytes(source)
-    return Mesh(lambda *places: _lib.stlslice_open(data, len(data), *places), pitch, layer, rule, grid, unit)
+    return Mesh("open", (data, len(data)), _options(pitch, layer, rule, grid, unit, canvas, turn))
 
 
-def open_mesh(points: Triples, triangles: Triples, pitch: int = 50, layer: int = 50, rule: str = "evenodd",
-              grid: Optional[Sequence[int]] = None) -> Mesh:
+def open_mesh(points: Triples, triangles: Triples, pitch: Pitch = 50, layer: int = 50, rule: Rule = "evenodd",
+              grid: Numbers = None, canvas: Numbers = None, turn: int = 0) -> Mesh:
     """Opens a mesh from arrays.
 
     `points` are rows of three coordinates in whole micrometres. `triangles` are rows of the indices of three points, from 0,
@@ -351,53 +421,54 @@ def open_mesh(points: Triples, triangles: Triples, pitch: int = 50, layer: int =
     names the first such triangle, from 0. Raises the faults of `open` for a mesh, a grid and an option.
     """
     corners, indices = _points(points), _triangles(triangles)
-    return Mesh(lambda *places: _lib.stlslice_open_mesh(corners[1], corners[2], indices[1], indices[2], *places),
-                pitch, layer, rule, grid, "mm")
+    return Mesh("open_mesh", (*corners[1:], *indices[1:]), _options(pitch, layer, rule, grid, "mm", canvas, turn))
+
+
+def _side_by_side(make: Callable[[int], bytes], layers: range, workers: int) -> Iterator[bytes]:
+    """What is made of each layer, in order. Whatever ends the iteration, no thread goes on."""
+    from concurrent.futures import ThreadPoolExecutor
+
+    ahead: Deque[Any] = collections.deque()
+    with ThreadPoolExecutor(workers) as pool:
+        try:
+            for k in layers:
+                ahead.append(pool.submit(make, k))
+                if len(ahead) > 2 * workers:
+                    yield ahead.popleft().result()
+            while ahead:
+                yield ahead.popleft().result()
+        finally:
+            for it in ahead:
+                it.cancel()
 
 
 class Mesh:
     """A closed mesh in its grid, with a rule: a sequence of its layers. `open` and `open_mesh` make it.
 
     `shape` has the counts of layers, rows and columns. `origin` is the grid's corner of least x, y and z, in micrometres.
-    `box` has the number and the box of all facets that were read. Layers count from 0 up, or from the top if k is
+    `box` has the number and the box of all facets that were read. On a canvas x and y of `origin`, `pitch` and loops are
+    multiplied by `times`, so that pixels are squares; else `times` is (1, 1). Layers count from 0 up, or from the top if k is
     negative. Calls that take a layer k, except `probe`, raise `IndexError` if there is none.
     """
 
-    def __init__(self, opens: Callable[..., int], pitch: int, layer: int, rule: str, grid: Optional[Sequence[int]],
-                 unit: str) -> None:
-        self._lock = threading.Lock()
-        self._handle = _Handle()
-        options = _Options(pitch=_word("pitch", pitch), layer=_word("layer", layer), rule=_choice("rule", rule, RULES),
-                           unit=_choice("unit", unit, UNITS))
-        if grid is not None:
-            if isinstance(grid, str) or len(grid) != 6:
-                raise RangeFault(OUT_OF_RANGE, "grid takes six numbers: columns, rows, layers, x, y, z")
-            columns, rows, layers, x, y, z = grid
-            if any(abs(_whole("grid", at)) >= 2**31 for at in (x, y, z)):
-                raise RangeFault(OUT_OF_RANGE, "grid is out of its range")
-            options.placing, options.origin = 1, (x, y, z)
-            options.columns, options.rows, options.layers = (_word("grid", it) for it in (columns, rows, layers))
-        shape, line = _Shape(), ctypes.create_string_buffer(LINE)
-        status = opens(options, self._handle, shape, line, LINE)
-        if status:
-            _raise(status, line)
+    def __init__(self, call: str, source: Tuple[Any, ...], options: _Options) -> None:
+        self._handle, shape = _Handle(), _Shape()
+        _call(call, *source, options, self._handle, shape)
         corners = shape.corners
-        self.pitch, self.layer, self.rule = options.pitch, options.layer, rule
+        self.pitch, self.layer, self.rule = shape.pitch, shape.layer, get_args(Rule)[options.rule]
+        self.times = (shape.times_x, shape.times_y)
         self.shape: Triple = (shape.layers, shape.rows, shape.columns)
         self.origin: Triple = tuple(shape.origin)
         self.box = Box(corners.facets, tuple(corners.low), tuple(corners.high))
         self._header = len(f"P4\n{shape.columns} {shape.rows}\n")
         self._size = self._header + shape.rows * ((shape.columns + 7) // 8)
+        self._room = 1 << 16    # for a PNG
 
     def __enter__(self) -> Mesh:
         return self
 
     def __exit__(self, *_: object) -> None:
         self.close()
-
-    def __del__(self) -> None:
-        if getattr(self, "_handle", None) is not None and _lib is not None:
-            _lib.stlslice_close(self._handle)
 
     def __reduce__(self) -> Any:
         raise TypeError("a mesh cannot be copied or pickled: open it again")
@@ -409,24 +480,24 @@ class Mesh:
     def __len__(self) -> int:
         return self.shape[0]
 
-    @overload
-    def __getitem__(self, k: int) -> numpy.ndarray: ...
-
-    @overload
-    def __getitem__(self, k: slice) -> numpy.ndarray: ...
-
-    def __getitem__(self, k):
+    def __getitem__(self, k: Union[int, slice]) -> numpy.ndarray:
         """Layer k as an array of bool, or the layers of a slice as an array of three dimensions."""
+        image = None if isinstance(k, slice) else self.image(k)
+        import numpy
+
+        _, rows, columns = self.shape
         if isinstance(k, slice):
-            return self._stack(range(*k.indices(len(self))))
-        return self._mask(memoryview(self._call("mask", self._layer(k), 1)), 0)
+            layers = range(*k.indices(len(self)))
+            stack = numpy.empty((len(layers), rows, columns), bool)
+            for mask, layer in zip(stack, layers):
+                mask[:] = self[layer]
+            return stack
+        packed = numpy.frombuffer(image, numpy.uint8, offset=self._header).reshape(rows, -1)
+        return numpy.unpackbits(packed, axis=1, count=columns).view(bool)
 
     def __iter__(self) -> Iterator[numpy.ndarray]:
         """The layers from the lowest up."""
-        for first in range(0, len(self), STRIPE):
-            images = self._stripe(first // STRIPE)
-            for place in range(min(STRIPE, len(self) - first)):
-                yield self._mask(images, place)
+        return map(self.__getitem__, range(len(self)))
 
     def __array__(self, dtype: Any = None, copy: Optional[bool] = None) -> numpy.ndarray:
         stack = self[:]
@@ -434,23 +505,28 @@ class Mesh:
 
     def image(self, k: int) -> bytes:
         """Layer k as the program writes it, in raw PBM."""
-        return bytes(self._call("mask", self._layer(k), 1))
+        image = (ctypes.c_char * self._size)()
+        self._ask("mask", self._layer(k), image, self._size, ctypes.c_size_t())
+        return image.raw
 
     def png(self, k: int, depth: int = 8, mirror_x: bool = False, mirror_y: bool = False) -> bytes:
         """Layer k as a PNG in greyscale, of 8 bits a pixel or 1: filled pixels are white, the others black. Without mirrors
         it is laid out as a mask; `mirror_x` exchanges left and right, and `mirror_y` top and bottom. Raises `RangeFault` for
         another depth."""
         number, bits, mirrors = self._layer(k), _word("depth", depth), (1 if mirror_x else 0) + (2 if mirror_y else 0)
-        room = self._size + 100     # mostly enough: asking only for the size takes as long as making the PNG
         while True:
-            png, wanted = (ctypes.c_char * room)(), ctypes.c_size_t()
-            status = self._status("png", number, bits, mirrors, png, room, wanted)
-            if status != NO_ROOM:
-                break
-            room = wanted.value
-        if status:
-            _raise(status)
-        return png[:wanted.value]
+            png, wanted = (ctypes.c_char * self._room)(), ctypes.c_size_t()
+            if self._ask("png", number, bits, mirrors, png, len(png), wanted):
+                return png[:wanted.value]
+            self._room = max(self._room, 2 * wanted.value)      # asking for the size alone takes as long as making the PNG
+
+    def pngs(self, depth: int = 8, mirror_x: bool = False, mirror_y: bool = False, workers: int = 1) -> Iterator[bytes]:
+        """The PNGs of all layers from the lowest up, as `png` makes them. This many threads make them side by side. They are at
+        most two layers for each thread ahead of the one that was taken, and end with the iterator."""
+        if _word("workers", workers) < 1:
+            raise RangeFault(OUT_OF_RANGE, "workers is out of its range")
+        made = functools.partial(self.png, depth=depth, mirror_x=mirror_x, mirror_y=mirror_y)
+        return map(made, range(len(self))) if workers == 1 else _side_by_side(made, range(len(self)), workers)
 
     def area(self, k: int) -> int:
         """The number of the filled pixels of layer k."""
@@ -458,10 +534,11 @@ class Mesh:
         self._ask("area", self._layer(k), pixels)
         return pixels.value
 
-    def areas(self) -> List[int]:
-        """The numbers of the filled pixels of all layers, from the lowest up. Faster than layer by layer."""
+    def areas(self, rule: Optional[Rule] = None) -> List[int]:
+        """The numbers of the filled pixels of all layers, from the lowest up, by the mesh's rule or another. Faster than layer by
+        layer."""
         areas = (ctypes.c_uint64 * len(self))()
-        self._ask("areas", 0, areas, len(self))
+        self._ask("areas", _choice("rule", rule or self.rule, Rule), 0, areas, len(self))
         return list(areas)
 
     def loops(self, k: int) -> List[numpy.ndarray]:
@@ -473,26 +550,21 @@ class Mesh:
         while True:
             points, ends = numpy.empty((room[0], 2), numpy.int64), numpy.empty(room[1], numpy.uintp)
             counts = ctypes.c_size_t(), ctypes.c_size_t()
-            status = self._status("loops", number, points.ctypes.data, room[0], counts[0], ends.ctypes.data, room[1], counts[1])
-            if status != NO_ROOM:
-                break
+            if self._ask("loops", number, points.ctypes.data, room[0], counts[0], ends.ctypes.data, room[1], counts[1]):
+                return numpy.split(points, ends[:-1].astype(int)) if len(ends) else []
             room = counts[0].value, counts[1].value
-        if status:
-            _raise(status)
-        ends = ends[:counts[1].value]
-        return numpy.split(points[:counts[0].value], ends[:-1].astype(int)) if len(ends) else []
 
     def probe(self, i: int, j: int, k: int) -> Tuple[int, int]:
         """The signed crossings of the mesh by the rays along x and y from the centre of a voxel. Raises `RangeFault`
         if the grid has no such voxel."""
-        rays = _Rays()
+        rays = (ctypes.c_int32 * 2)()
         self._ask("probe", _word("column", i), _word("row", j), _word("layer", k), rays)
-        return rays.along_x, rays.along_y
+        return rays[0], rays[1]
 
     def close(self) -> None:
-        """Frees the mesh. Calls that then ask the library for a layer or a voxel raise `ClosedFault`."""
-        with self._lock:
-            _lib.stlslice_close(self._handle)
+        """Frees the mesh, if other threads have calls of it when the last of these ends. Calls that then ask the library for a
+        layer or a voxel raise `ClosedFault`."""
+        self._handle = _Handle()
 
     def _layer(self, k: Any) -> int:
         number = operator.index(k)
@@ -500,44 +572,10 @@ class Mesh:
             raise IndexError(f"layer {number} of {len(self)}")
         return number % len(self)
 
-    def _status(self, name: str, *words: Any) -> int:
-        with self._lock:
-            return getattr(_lib, f"stlslice_{name}")(self._handle, *words)
-
-    def _ask(self, name: str, *words: Any) -> None:
-        status = self._status(name, *words)
-        if status:
-            _raise(status)
-
-    def _call(self, name: str, number: int, count: int) -> ctypes.Array[ctypes.c_char]:
-        """The bytes of this many images."""
-        images, wanted = (ctypes.c_char * (count * self._size))(), ctypes.c_size_t()
-        self._ask(name, number, images, len(images), wanted)
-        return images
-
-    def _mask(self, images: memoryview, place: int) -> numpy.ndarray:
-        """One of some images, as an array. Images are unpacked one by one, since an array takes eight times their room."""
-        import numpy
-
-        _, rows, columns = self.shape
-        packed = numpy.frombuffer(images[place * self._size + self._header:(place + 1) * self._size], numpy.uint8)
-        return numpy.unpackbits(packed.reshape(rows, -1), axis=1, count=columns).view(bool)
-
-    def _stripe(self, number: int) -> memoryview:
-        return memoryview(self._call("stripe", number, min(STRIPE, len(self) - STRIPE * number)))
-
-    def _stack(self, layers: range) -> numpy.ndarray:
-        import numpy
-
-        stack = numpy.empty((len(layers), *self.shape[1:]), bool)
-        number = None
-        for place, k in enumerate(layers):
-            # a slice with wide steps has at most one layer of each stripe, so each is asked for alone
-            if abs(layers.step) >= STRIPE:
-                stack[place] = self[k]
-                continue
-            if number != k // STRIPE:
-                number = k // STRIPE
-                images = self._stripe(number)
-            stack[place] = self._mask(images, k % STRIPE)
-        return stack
+    def _ask(self, name: str, *words: Any) -> bool:
+        """Whether the library gave what was asked for: not if a buffer was too small. Any other fault is raised."""
+        status, line = getattr(_lib, f"stlslice_{name}")(self._handle, *words), ctypes.create_string_buffer(LINE)
+        if status not in (DONE, NO_ROOM):
+            _lib.stlslice_fault_text(status, line, LINE)
+            _raise(status, line)
+        return bool(status == DONE)

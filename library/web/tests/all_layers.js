@@ -5,6 +5,11 @@
         for (let at = 0; at < data.length; at += 32768) words += String.fromCharCode(...data.subarray(at, at + 32768));
         return btoa(words);
     };
+    const joined = (parts) => {
+        const all = new Uint8Array(parts.reduce((sum, it) => sum + it.length, 0));
+        parts.reduce((at, part) => { all.set(part, at); return at + part.length; }, 0);
+        return all;
+    };
     const images = [], points = [], areas = [], ends = [];
     for (let k = 0; k < shape.layers; k++) {
         bits_of(k);
@@ -14,6 +19,6 @@
         points.push(new Uint8Array(loops.points.buffer));
         ends.push([...loops.ends]);
     }
-    const together = areas_from(places.mesh, 0, Infinity);
+    const together = [0, 1, 2].map((rule) => areas_from(0, rule, Infinity));
     return { images: base64(joined(images)), points: base64(joined(points)), areas, together, ends };
 })()

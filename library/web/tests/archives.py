@@ -2,18 +2,20 @@
 for printers that the page does not place parts for."""
 
 import json
+import math
 import os
 import random
 import shutil
+import struct
 import subprocess
 import sys
 import zipfile
 from fractions import Fraction
 from types import SimpleNamespace
 
-from common import IDLE, ROOT, SECONDS, example, holds, same
+from common import IDLE, ROOT, SECONDS, example, field_of, holds, same
 from files import binary_of, gear, turned_out
-from measure import ring_of
+from measure import place
 
 sys.path.append(os.path.join(ROOT, "commands"))
 
@@ -23,41 +25,65 @@ SETTINGS = 400
 
 
 def cases(room):
-    """A part, what is filled into the form, and the same words for the command."""
+    """Parts, what is filled into the form, and the same words for the command: for both printers, a screen of 12K, pixels that are not
+    square, a turn, each kind of file, and a million facets."""
     ring, binary = os.path.join(room, "a ring, 1.stl"), os.path.join(room, "gear.stl")
-    ring_of(60000, ring)
+    write_ring(ring)
     with open(binary, "wb") as file:
         file.write(binary_of(gear()))
-    usual = {"pitch": 50, "height": 50, "columns": 2560, "rows": 1620}
-    own = {"exposure": "7.125", "first_exposure": "30.5", "fade": 3, "material": "Tough,  blue\u00e9"}
+    own = {"exposure": "7.125", "first_exposure": "30.5", "fade": "3", "material": "Tough,  blue\u00e9"}
+    own_words = ["--exposure", "7.125", "--first-exposure", "30.5", "--fade", "3", "--material", own["material"]]
+    bracket, supported = example("bracket"), example("supported")
     return [
-        (example("supported"), {**usual, "height": 100}, [], {}),
-        (example("bracket"), {"pitch": 100, "height": 1000, "columns": 701, "rows": 403}, ["--mirror-x", "--mirror-y", "--exposure", "7.125",
-         "--first-exposure", "30.5", "--fade", "3", "--material", own["material"]], {"mirror_x": True, "mirror_y": True, **own}),
-        (example("bracket"), {"pitch": 610, "height": 3330, "columns": 540, "rows": 210, "unit": 2}, ["--unit", "cm"], {}),
-        (example("supported"), {"pitch": 19, "height": 500, "columns": 11520, "rows": 5120}, ["--mirror-y"], {"mirror_y": True}),
-        (binary, {**usual, "height": 500}, [], {}),
-        (ring, {**usual, "height": 400}, ["--rule", "nonzero"], {"rule": 1}),
+        (supported, {"printer": "SL1", "height": 100}, ["--printer", "SL1", "--layer", "100"]),
+        (bracket, {"printer": "SL1S", "turn": True, **own}, ["--printer", "SL1S", "--turn", *own_words]),
+        (bracket, {**screen(701, 403, "100"), "height": 1000, "mirror_x": True, "mirror_y": True, **own},
+         ["--canvas", "701x403", "--pitch", "100", "--layer", "1000", "--mirror-x", "--mirror-y", *own_words]),
+        (bracket, {**screen(540, 210, "610"), "height": 3330, "unit": 2},
+         ["--canvas", "540x210", "--pitch", "610", "--layer", "3330", "--unit", "cm"]),
+        (supported, {**screen(11520, 5120, "19"), "height": 500}, ["--canvas", "11520x5120", "--pitch", "19", "--layer", "500"]),
+        (supported, {**screen(11520, 5120, "19", "24"), "height": 500, "mirror_y": True, "turn": True},
+         ["--canvas", "11520x5120", "--pitch", "19x24", "--layer", "500", "--mirror-y", "--turn"]),
+        (binary, {"printer": "SL1S", "height": 500}, ["--printer", "SL1S", "--layer", "500"]),
+        (ring, {"printer": "SL1S", "height": 400, "rule": 1}, ["--printer", "SL1S", "--layer", "400", "--rule", "nonzero"]),
     ]
+
+
+def write_ring(path, around=1000, across=500):
+    """A binary STL of a million facets."""
+    points = [[struct.pack("<3f", *map(float, place(2 * math.pi * i / around, 2 * math.pi * j / across).split()))
+               for j in range(across)] for i in range(around)]
+    with open(path, "wb") as file:
+        file.write(bytes(80) + struct.pack("<I", 2 * around * across))
+        for one, other in zip(points, [*points[1:], points[0]]):
+            for j in range(across):
+                a, b, c, d = one[j - 1], other[j - 1], other[j], one[j]
+                file.write(b"".join([bytes(12), a, b, c, bytes(14), a, c, d, bytes(2)]))
+
+
+def screen(columns, rows, width, depth=None):
+    return {"printer": "own", "columns": columns, "rows": rows, "width": width, "depth": depth or width}
 
 
 def fill(page, fields):
     """Fills fields as a hand does, those of the archive too."""
     words = []
     for name, value in fields.items():
-        what = "checked" if isinstance(value, bool) else "selectedIndex" if name in ("rule", "unit") else "value"
+        what = "selectedIndex" if name in ("rule", "unit") else field_of(value)
         words.append(f"by({json.dumps(name)}).{what} = {json.dumps(value)}")
-    page.value("; ".join([*words, "by('archive').dispatchEvent(new Event('change'))", "0"]))
+    page.value("; ".join([*words, "lay_form()", "by('archive').dispatchEvent(new Event('change'))", "0"]))
+
+
+def ran_command(program, name, *words):
+    """A command of this folder that has run, at the moment that the page takes."""
+    path = f"{os.path.dirname(program)}:{os.environ['PATH']}"
+    return subprocess.run([sys.executable, os.path.join(ROOT, "commands", name), *words], capture_output=True, text=True, errors="replace",
+                          env={**os.environ, "PATH": path, "SOURCE_DATE_EPOCH": str(MOMENT)})
 
 
 def command(program, name, part, output, words):
-    words = [sys.executable, os.path.join(ROOT, "commands", name), "--program", program, "--workers", "4", *words, part, output]
-    ran = subprocess.run(words, env={**os.environ, "SOURCE_DATE_EPOCH": str(MOMENT)}, capture_output=True, text=True)
-    same(ran.returncode, 0, f"status of {words}: {ran.stderr}")
-
-
-def words_of(fields):
-    return ["--canvas", f"{fields['columns']}x{fields['rows']}", "--pitch", str(fields["pitch"]), "--layer", str(fields["height"])]
+    ran = ran_command(program, name, "--workers", "4", *words, part, output)
+    same(ran.returncode, 0, f"status of {name} {words}: {ran.stderr}")
 
 
 def head_of(entry):
@@ -73,23 +99,21 @@ def same_archive(found, wanted, what):
         return len(theirs.namelist())
 
 
-def opened_in(page, part, fields, own):
+def opened_in(page, part, fields):
     page.load()
     page.value(f"moment = () => {MOMENT}; 0")
-    fill(page, {"rule": 2, "unit": 0, **fields, **own, "grid": "canvas"})
-    page.value("lay_form()")
+    fill(page, fields)
     page.take(part)
     holds(f"{part} is opened: {page.text('fault_line')}", page.value("opened !== null"))
 
 
 def try_archives(page, room, program, every):
     entries = 0
-    for part, fields, words, own in every:
-        opened_in(page, part, fields, own)
+    for part, fields, words in every:
+        opened_in(page, part, fields)
         name = f"{os.path.basename(part)[:-4]}.sl1"
         wanted = os.path.join(room, name)
-        rule = ["--rule", "positive"] if "--rule" not in words else []
-        command(program, "stlslice-sl1", part, wanted, [*words_of(fields), *words, *rule])
+        command(program, "stlslice-sl1", part, wanted, words)
         entries += same_archive(page.saved(name, "save_archive"), wanted, f"{name} {fields}")
         os.remove(wanted)
     return f"{len(every)} archives with {entries} entries, each as stlslice-sl1 writes it"
@@ -97,10 +121,9 @@ def try_archives(page, room, program, every):
 
 def try_pngs(page, room, program):
     """A zip of PNGs has what `stlslice-pngs` puts into a folder."""
-    fields = {"pitch": 100, "height": 500, "columns": 640, "rows": 480}
-    opened_in(page, example("bracket"), fields, {})
+    opened_in(page, example("bracket"), {**screen(640, 480, "100"), "height": 500})
     folder = os.path.join(room, "pngs")
-    command(program, "stlslice-pngs", example("bracket"), folder, words_of(fields))
+    command(program, "stlslice-pngs", example("bracket"), folder, ["--canvas", "640x480", "--pitch", "100", "--layer", "500"])
     with zipfile.ZipFile(page.saved("bracket_pngs.zip", "save_pngs")) as found:
         same(found.namelist(), sorted(os.listdir(folder)), "the names of PNGs")
         for name in found.namelist():
@@ -111,10 +134,10 @@ def try_pngs(page, room, program):
 
 def try_stop(page):
     """Saving can be stopped, and the part is still there; a part that is chosen meanwhile ends it too."""
-    opened_in(page, example("supported"), {"pitch": 19, "height": 10, "columns": 11520, "rows": 5120}, {})
+    opened_in(page, example("supported"), {**screen(11520, 5120, "19"), "height": 10})
     for name in os.listdir(page.browser.saved):
         os.remove(os.path.join(page.browser.saved, name))
-    for ending in ("by('stop').click()", "by('pitch').value = 20; by('form').dispatchEvent(new Event('change'))"):
+    for ending in ("by('stop').click()", "by('width').value = 20; by('form').dispatchEvent(new Event('change'))"):
         page.value("by('save_archive').click()")
         page.until("!by('busy').hidden && parseFloat(by('done').style.width) > 0", SECONDS)
         holds("layers are shown meanwhile", page.value("by('layer').value = 7; show().then(() => shown.k)") == 7)
@@ -124,6 +147,16 @@ def try_stop(page):
         holds("the part is still there", page.value("opened !== null && by('fault').hidden"))
 
 
+def try_wrong_fields(page):
+    """A wrong exposure is shown, and nothing is saved by it."""
+    opened_in(page, example("bracket"), {**screen(640, 480, "100"), "height": 500, "exposure": "0.0"})
+    page.value("by('save_archive').click()")
+    page.until("document.activeElement.id === 'exposure' && by('exposure').checkVisibility()")
+    same(page.value("save_all.is_running()"), False, "whether it is saved")
+    page.value("by('exposure').value = ''; by('archive').dispatchEvent(new Event('change'))")
+    os.remove(page.saved("bracket.sl1", "save_archive"))
+
+
 def try_dark(page, room):
     """An archive of which no pixel is lit is refused, as by the command."""
     with open(example("bracket"), "rb") as file:
@@ -131,7 +164,7 @@ def try_dark(page, room):
     path = os.path.join(room, "dark.stl")
     with open(path, "wb") as file:
         file.write(text)
-    opened_in(page, path, {"pitch": 500, "height": 500, "columns": 100, "rows": 100}, {})
+    opened_in(page, path, {**screen(100, 100, "500"), "height": 500})
     page.value("by('save_archive').click()")
     page.until("by('warnings').textContent.includes('dark.sl1 is not saved: no pixel is lit')")
 
@@ -177,25 +210,20 @@ def try_settings(page):
         given.material = sl1.one_line(material)
         texts = [sl1.settings(sliced, job, slow, sl1.print_time(given, layers, slow), sl1.time.gmtime(MOMENT)), sl1.profile(given)]
         wanted.append(["".join(f"{key} = {value}\n" for key, value in sorted(it.items())) for it in texts])
-        row = printer and {"model": printer.model, "name": printer.name, "orientation": "portrait" if printer.is_portrait else "landscape"}
-        every.append({"given": {**vars(given), "printer": row, "pitch": [decimal(it) for it in sides], "material": material},
+        row = printer and {"model": printer.model, "name": printer.name, "is_portrait": printer.is_portrait}
+        pitch = [[it.numerator, it.denominator] for it in sides]
+        every.append({"given": {**vars(given), "printer": row, "pitch": pitch, "material": material},
                       "layers": layers, "lit": lit, "slow": slow, "now": MOMENT})
     told = page.in_worker(f"{json.dumps(every)}.map((it) => [settings({{ ...it, job: job_of('out of \u00e9.SL1') }}), profile(it.given)])")
     for one, other in zip(told, wanted):
         same(one, other, "settings")
 
 
-def decimal(length):
-    """A length as its exact decimal."""
-    digits = f"{int(length * 10 ** 6):07}"
-    same(Fraction(int(digits), 10 ** 6), length, "the length")
-    return f"{digits[:-6]}.{digits[-6:]}".rstrip("0").rstrip(".")
-
-
 def try_all(page, room, program, every):
     told = try_archives(page, room, program, every)
     try_pngs(page, room, program)
     try_stop(page)
+    try_wrong_fields(page)
     try_dark(page, room)
     try_numbers(page)
     try_settings(page)

@@ -93,6 +93,10 @@ def cases(room, program):
         return list(pool.map(lambda it: Case(*it, program), every))
 
 
+def field_of(value):
+    return "checked" if isinstance(value, bool) else "value"
+
+
 class Page:
     """The page in a browser. `set` fills its form, for the file that is chosen next."""
 
@@ -109,11 +113,11 @@ class Page:
 
     def set(self, pitch, layer, rule=2, unit=0, **_):
         self.value(f"by('pitch').value = {pitch}; by('height').value = {layer}; by('rule').selectedIndex = {rule};"
-                   f"by('unit').selectedIndex = {unit}; by('grid').value = 'fitted'")
+                   f"by('unit').selectedIndex = {unit}; by('printer').value = ''; lay_form()")
 
     def change(self, **values):
         """Changes fields of the form, as a hand does."""
-        self.value("".join(f"by({json.dumps(name)}).value = {json.dumps(value)};" for name, value in values.items()) + CHANGED)
+        self.value("".join(f"by({json.dumps(name)}).{field_of(value)} = {json.dumps(value)};" for name, value in values.items()) + CHANGED)
 
     def take(self, path):
         """Chooses a file, and waits until it is opened or refused."""
@@ -123,14 +127,19 @@ class Page:
 
     def saved(self, name, click):
         """Clicks a button, and returns the path of the file that is saved then."""
-        path, end = os.path.join(self.browser.saved, name), time.monotonic() + SECONDS
+        path = os.path.join(self.browser.saved, name)
         if os.path.exists(path):
             os.remove(path)
         self.value(f"by({json.dumps(click)}).click()")
+        self.wait_for(path)
+        return path
+
+    def wait_for(self, path):
+        """Waits until a file is there, whole."""
+        end = time.monotonic() + SECONDS
         while time.monotonic() < end and not (os.path.exists(path) and os.path.getsize(path) and not os.path.exists(f"{path}.part")):
             self.value("new Promise((done) => setTimeout(() => done(0), 50))")
-        holds(f"{name} was saved", os.path.exists(path))
-        return path
+        holds(f"{path} was saved", os.path.exists(path))
 
     def text(self, name):
         return self.value(f"by({json.dumps(name)}).textContent")

@@ -1,15 +1,13 @@
-"""The page's controls, used as by hand: slider, keys, wheel, plot, canvas, wrong fields, hints, saving, examples."""
+"""The page's controls, used as by hand: slider, keys, wheel, plot, screens, wrong fields, hints, saving, examples."""
 
 import base64
 import os
 import subprocess
-import time
 
 from common import CHANGED, IDLE, PHONE, area_of, example, holds, images_of, same, script
 from looks import broken
 
 SIGNATURE = b"\x89PNG\r\n\x1a\n"
-SECONDS = 60  # for a file to be saved
 
 
 def try_keys(page):
@@ -73,11 +71,11 @@ def try_zoom(page):
 
 # Whether the canvas shows each pixel of the image, one after the other
 SHOWN = """(() => {
-    const { scale, left, top } = framed(), pen = by("image").getContext("2d"), { columns, rows } = opened, found = [];
-    const middle = (least, at) => Math.floor(least + (at + 0.5) * scale);
+    const { across, down, left, top } = framed(), pen = by("image").getContext("2d"), { columns, rows } = opened, found = [];
+    const middle = (least, at, scale) => Math.floor(least + (at + 0.5) * scale);
     for (let j = 0; j < rows; j++)
         for (let i = 0; i < columns; i++) {
-            const [red] = pen.getImageData(middle(left, i), middle(top, j), 1, 1).data;
+            const [red] = pen.getImageData(middle(left, i, across), middle(top, j, down), 1, 1).data;
             found.push(red < 0xa0 ? 1 : 0);
         }
     return found.join("");
@@ -94,7 +92,7 @@ def try_told(page, program):
     told = page.text("told").replace(",", "")
     same(told, f"Layer 37 of {len(images)} z 3.750 mm area {area / 100:.3f} mm² ({area} pixels) 1 loop", "what is told of the layer")
     page.until("areas.length === opened.layers")
-    holds("the canvas shows each pixel at least once", page.value("framed().scale > 1"))
+    holds("the canvas shows each pixel at least once", page.value("Math.min(framed().across, framed().down) > 1"))
     stride = (columns + 7) // 8
     lines = (images[37][at:at + stride] for at in range(0, stride * rows, stride))
     same(page.value(SHOWN), "".join("".join(f"{byte:08b}" for byte in it)[:columns] for it in lines), "the pixels on the canvas")
@@ -113,30 +111,40 @@ def try_drop(page):
     same(page.text("name"), "bracket.stl", "the part after it")
 
 
-def try_canvas(page, program):
-    """A canvas has the part in its middle, as the scripts for printers have it. A part that is larger is refused."""
+def try_screen(page, program):
+    """A screen has the part in its middle. A part that is larger is refused."""
     page.load()
     page.set(100, 100)
     page.take(example("bracket"))
-    page.change(grid="canvas", columns=517, rows=303)
+    page.change(printer="own", columns=517, rows=303, width="100", depth="100")
     page.until(f"{IDLE} && opened.columns === 517")
     with open(example("bracket"), "rb") as text:
         box = subprocess.run([program, "--box"], stdin=text, capture_output=True, check=True).stdout.split()
     low_x, low_y, low_z, high_x, high_y, high_z = map(int, box[3:])
-    x, y, layers = (low_x + high_x - 51700) // 2, (low_y + high_y - 30300) // 2, -(-(high_z - low_z) // 100)
+    x, y, layers = (low_x + high_x - 51700) // 2, (low_y + high_y - 30300) // 2, (high_z - low_z) // 100
     grid = f"--grid=517,303,{layers},{x},{y},{low_z}"
     images, *_ = images_of(program, example("bracket"), "--pitch", "100", "--layer", "100", "--rule", "positive", grid)
     same(base64.b64decode(page.in_worker(script("all_layers"))["images"]), b"".join(b"P4\n517 303\n" + it for it in images),
-         "the images on a canvas")
+         "the images on a screen")
     try_mirrors(page, images[60], columns=517)
+    try_places(page)
+    page.value("by('mirror_x').checked = true; save()")
+    same_png(page, program, 60, 100, "--mirror-x", grid)
+    page.value("by('mirror_x').checked = false")
     page.change(rows=10)
     page.until("!by('fault').hidden")
-    same(page.text("fault_line"), "the part doesn't fit: it is 31.964 x 12.000 mm, the canvas 51.700 x 1.000 mm",
-         "the fault of a part that is too large")
+    same([page.text("fault_line"), page.text("fault_place")],
+         ["part does not fit: 31964 x 12000 micrometres on a screen of 51700 x 1000; turned by a quarter it does not fit either",
+          "On this screen the part is 31.964 × 12.000 mm, and the screen 51.700 × 1.000 mm."], "the fault of a part that is too large")
+    page.change(columns=200, rows=400)
+    page.until("by('fault_place').textContent.includes('It fits if it is turned by a quarter')")
+    page.change(turn=True)
+    page.until(f"{IDLE} && opened.columns === 200")
+    page.change(turn=False)
 
 
 def try_mirrors(page, image, columns):
-    """The page shows the images of a canvas as they are saved: mirrored, if that was chosen."""
+    """The page shows the images of a screen as they are saved: mirrored, if that was chosen."""
     stride = (columns + 7) // 8
     rows = ["".join(f"{byte:08b}" for byte in image[at:at + stride])[:columns] for at in range(0, len(image), stride)]
     page.value("by('outlines').checked = false; go(60)")
@@ -147,29 +155,45 @@ def try_mirrors(page, image, columns):
         same(page.value(SHOWN), "".join(seen), f"the pixels with mirrors {x}, {y}")
 
 
+def try_places(page):
+    """The place that is told of a pixel is that in the part, however it is turned and stretched on the screen."""
+    for width, depth, turn, right, up in (("100", "100", False, (1, 0), (0, 1)), ("40", "60", False, (1, 0), (0, 1)),
+                                          ("60", "47.25", True, (0, -1), (1, 0))):
+        page.change(width=width, depth=depth, turn=turn, columns=901, rows=951)
+        page.until(f"{IDLE} && opened.sides[1] === {depth} && opened.rows === 951")
+        middle = page.value("place_of(450, 475)")
+        wanted = page.value("[0, 1].map((axis) => (opened.low[axis] + opened.high[axis]) / 2)")
+        holds(f"the middle {middle} is near {wanted}", all(abs(it - other) < 1 for it, other in zip(middle, wanted)))
+        for pixel, axis, side in (("450 + 10, 475", right, width), ("450, 475 + 10", up, depth)):
+            moved = [round(now - before, 6) for now, before in zip(page.value(f"place_of({pixel})"), middle)]
+            same(moved, [10 * float(side) * it for it in axis], f"ten pixels in the part, {turn}")
+    page.change(width="100", depth="100", turn=False, columns=517, rows=303)
+    page.until(f"{IDLE} && opened.columns === 517 && opened.sides[1] === 100")
+
+
 # Whether the canvas shows a pixel of the image as filled, when it is near and in the middle
 NEAR = """(() => {
     const { columns, rows } = opened, canvas = by("image");
     look = { zoom: 12, x: 0, y: 0 };
-    const { scale } = framed(), shift = (count, at) => (count / 2 - at - 0.5) * scale / dense();
-    look = { zoom: 12, x: shift(columns, %d), y: shift(rows, %d) };
+    const { across, down } = framed(), shift = (count, at, scale) => (count / 2 - at - 0.5) * scale / dense();
+    look = { zoom: 12, x: shift(columns, %d, across), y: shift(rows, %d, down) };
     draw();
     const middle = [canvas.width / 2, canvas.height / 2].map(Math.floor);
     return canvas.getContext("2d").getImageData(...middle, 1, 1).data[0] < 0xa0;
 })()"""
 
 
-def try_large_canvas(page, program):
-    """The picture of a large canvas is made smaller; near by, the image's own pixels are shown."""
+def try_large_screen(page, program):
+    """The picture of a large screen is made smaller; near by, the image's own pixels are shown."""
     page.load()
     page.set(10, 1000)
     page.take(example("bracket"))
-    page.change(grid="canvas", columns=5000, rows=3000)
+    page.change(printer="own", columns=5000, rows=3000, width="10", depth="10")
     page.until(f"{IDLE} && opened.columns === 5000")
     page.value("by('outlines').checked = false; go(3)")
     same(page.k(), 3, "layer")
     holds("the picture is made smaller", page.value("shown.side > 1 && shown.bits.length > 0"))
-    grid = "--grid=" + ",".join(map(str, page.value("opened.grid")))
+    grid = "--grid=" + ",".join(map(str, page.value("[opened.columns, opened.rows, opened.layers, ...opened.origin]")))
     images, *_ = images_of(program, example("bracket"), "--pitch", "10", "--layer", "1000", "--rule", "positive", grid)
     row = 1500
     line = "".join(f"{byte:08b}" for byte in images[3][row * 625:(row + 1) * 625])
@@ -195,8 +219,8 @@ def try_wrong_fields(page):
     page.load()
     page.set(100, 100)
     page.take(example("bracket"))
-    page.change(grid="canvas", columns="")
-    page.change(grid="fitted", height=200)
+    page.change(printer="own", columns="", width="0.0")
+    page.change(printer="", height=200)
     page.until(f"{IDLE} && opened.options.layer === 200")
     same(page.value("by('form').autocomplete"), "off", "what a browser restores of the form")
     at_openings(page, f"by('pitch').value = ''; {CHANGED}")
@@ -243,15 +267,12 @@ def try_saving(page, program):
     same_png(page, program, 7, 400)
 
 
-def same_png(page, program, k, layer):
+def same_png(page, program, k, layer, *more):
     """The page saves layer k as the program writes it."""
     path = os.path.join(page.browser.saved, f"bracket_{k:05}.png")
-    end = time.monotonic() + SECONDS
-    while time.monotonic() < end and not (os.path.exists(path) and os.path.getsize(path)):
-        page.value("new Promise((done) => setTimeout(done, 50))")
-    holds(f"{os.path.basename(path)} was saved", os.path.exists(path))
+    page.wait_for(path)
     with open(path, "rb") as file, open(example("bracket"), "rb") as part:
-        words = [program, "--pitch", "100", "--layer", str(layer), "--rule", "positive", "--png", "--depth", "1"]
+        words = [program, "--pitch", "100", "--layer", str(layer), "--rule", "positive", "--png", "--depth", "1", *more]
         pngs = subprocess.run(words, stdin=part, stdout=subprocess.PIPE, check=True).stdout.split(SIGNATURE)
         same(file.read(), SIGNATURE + pngs[k + 1], f"the saved PNG of layer {k}")
 
@@ -270,8 +291,8 @@ def try_all(page, room, program):
     try_keys(page)
     try_told(page, program)
     try_drop(page)
-    try_canvas(page, program)
-    try_large_canvas(page, program)
+    try_screen(page, program)
+    try_large_screen(page, program)
     try_wrong_fields(page)
     try_hints(page, room)
     try_saving(page, program)

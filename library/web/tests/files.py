@@ -8,21 +8,22 @@ import re
 import struct
 import subprocess
 import zipfile
+from decimal import Decimal
 
 from common import IDLE, ROOT, area_of, example, holds, images_of, same, script
-
-
-def shortest(number):
-    """The shortest decimal that reads back as a number of single precision."""
-    return next(word for word in (f"{number:.{digits}g}" for digits in range(1, 10)) if single(float(word)) == number)
 
 
 def single(number):
     return struct.unpack("<f", struct.pack("<f", number))[0]
 
 
-def text_of(facets, word=shortest):
-    """Facets of nine numbers as a text, with the shortest decimals or other words."""
+def exact(number):
+    """All digits of a number."""
+    return format(Decimal(number), "f")
+
+
+def text_of(facets, word=exact):
+    """Facets of nine numbers as a text, with all digits or other words."""
     lines = ["solid"]
     for facet in facets:
         corners = (" ".join(map(word, facet[at:at + 3])) for at in (0, 3, 6))
@@ -30,21 +31,26 @@ def text_of(facets, word=shortest):
     return "\n".join([*lines, "endsolid", ""]).encode()
 
 
-def half_micrometres(word):
-    """A number near a text's, of single precision, whose shortest decimal lies between two micrometres."""
-    return single(round(float(word) * 4) / 4 + 0.0005)
+def half_micrometres(number):
+    """A number near this one, of single precision, whose decimal of seven digits lies between two micrometres."""
+    return single(round(number * 4) / 4 + 0.0005)
 
 
 def written(program, text, *words):
     return subprocess.run([program, *words], input=text, capture_output=True, check=True).stdout
 
 
-def gear():
-    """The facets of an example, nine numbers each, of which many lie between two micrometres."""
-    with open(example("helical_gear"), encoding="ascii") as file:
+def facets_of(name, number=single):
+    """The facets of an example, nine numbers each."""
+    with open(example(name), encoding="ascii") as file:
         words = file.read().split()
-    numbers = [half_micrometres(words[at + it]) for at, word in enumerate(words) if word == "vertex" for it in (1, 2, 3)]
+    numbers = [number(float(words[at + it])) for at, word in enumerate(words) if word == "vertex" for it in (1, 2, 3)]
     return [numbers[at:at + 9] for at in range(0, len(numbers), 9)]
+
+
+def gear():
+    """The facets of an example, with many numbers near the middle between two micrometres."""
+    return facets_of("helical_gear", half_micrometres)
 
 
 def binary_of(facets):
@@ -53,7 +59,7 @@ def binary_of(facets):
 
 
 def try_binary(page, room, program):
-    """A binary STL is the text with the shortest decimals of its numbers; a bad number is reported with its facet."""
+    """A binary STL is the text with all digits of its numbers; a bad number is reported with its facet."""
     facets, binary = gear(), os.path.join(room, "binary.stl")
     with open(binary, "wb") as file:
         file.write(binary_of(facets))
@@ -62,7 +68,7 @@ def try_binary(page, room, program):
     page.take(binary)
     text = text_of(facets)
     box = written(program, text, "--box")
-    holds("the box would be another with all digits", written(program, text_of(facets, repr), "--box") != box)
+    holds("the box would be another with fewer digits", written(program, text_of(facets, "{:.7g}".format), "--box") != box)
     same(page.value("[...opened.low, ...opened.high]"), list(map(int, box.split()[3:])), "the box of a binary file")
     same(base64.b64decode(page.in_worker(script("all_layers"))["images"]),
          written(program, text, "--pitch", "50", "--layer", "100", "--rule", "positive"), "images of a binary file")
@@ -71,8 +77,8 @@ def try_binary(page, room, program):
         file.seek(84 + 50 * 6 + 12)
         file.write(struct.pack("<f", math.nan))
     page.take(binary)
-    holds("a number that is none is reported", "not a number" in page.text("fault_line"))
-    holds("with its facet", page.text("fault_place").startswith("Facet 7 of the file"))
+    same([page.text("fault_line"), page.text("fault_place")],
+         ["x of corner 0 of facet 6: not a number", "Facet 7 of the file, counted from 1."], "what is told of a number that is none")
 
 
 # Files that are no STL: what the page says of each first
@@ -173,17 +179,21 @@ def try_several(page):
 
 
 def try_units(page, room, program):
-    """Numbers in cm and m are multiplied exactly; the images are those of `stlslice-sl1`'s unit."""
+    """Numbers in cm and m are multiplied exactly, those of a binary file too."""
+    binary, facets = os.path.join(room, "binary.stl"), facets_of("bracket")
     with open(example("bracket"), "rb") as file:
         text = file.read()
-    for unit, power, pitch in ((2, 1, 1000), (3, 3, 50000)):
+    with open(binary, "wb") as file:
+        file.write(binary_of(facets))
+    for unit, power, pitch, path, told in ((2, 1, 1000, example("bracket"), text), (2, 1, 1000, binary, text_of(facets)),
+                                           (3, 3, 50000, binary, text_of(facets)), (3, 3, 50000, example("bracket"), text)):
         page.load()
         page.set(pitch, pitch, unit=unit)
-        page.take(example("bracket"))
+        page.take(path)
         page.until("areas.length === opened.layers")
-        times = re.sub(rb"(?<=\s)(-?\d+\.?\d*)e?([-+]\d+)?(?=\s)", lambda it: b"%se%d" % (it[1], int(it[2] or 0) + power), text)
+        times = re.sub(rb"(?<=\s)(-?\d+\.?\d*)e?([-+]\d+)?(?=\s)", lambda it: b"%se%d" % (it[1], int(it[2] or 0) + power), told)
         wanted = written(program, times, "--pitch", str(pitch), "--layer", str(pitch), "--rule", "positive")
-        same(base64.b64decode(page.in_worker(script("all_layers"))["images"]), wanted, f"images in unit {unit}")
+        same(base64.b64decode(page.in_worker(script("all_layers"))["images"]), wanted, f"images of {path} in unit {unit}")
     holds(page.text("warnings"), "is m the unit of its numbers?" in page.text("warnings"))
     path = os.path.join(room, "spoiled.stl")
     with open(path, "wb") as file:

@@ -1,6 +1,8 @@
 """The page for hands and eyes: buttons, swipes, scrolling, the keyboard alone, colours, what is kept, the command."""
 
+import contextlib
 import json
+import os
 import shlex
 
 from common import IDLE, PHONE, example, holds, same, script
@@ -97,8 +99,31 @@ def try_keyboard(page):
         same(page.value("[look.x, look.y]"), wanted, f"where the picture is after {key}")
     for _ in range(60):
         page.browser.key("ArrowRight", modifiers=SHIFT)
-    holds("the picture is not lost", page.value("look.x + framed().scale * opened.columns / 2 > -by('image').clientWidth / 2"))
+    holds("the picture is not lost", page.value("look.x + framed().wide / 2 > -by('image').clientWidth / 2"))
     page.browser.key("0", "Digit0", "0")
+    try_tabs(page)
+    go_to(page, "printer")
+    page.browser.key("ArrowDown")
+    page.until(f"{IDLE} && opened.columns === 1440")
+    go_to(page, "save_archive")
+    archive = os.path.join(page.browser.saved, "bracket.sl1")
+    with contextlib.suppress(FileNotFoundError):
+        os.remove(archive)
+    page.browser.key("Enter", text="\r")
+    page.wait_for(archive)
+
+
+def go_to(page, wanted):
+    """Presses Tab until a field or a button has the focus."""
+    for _ in range(40):
+        if page.value("document.activeElement.id") == wanted:
+            return
+        page.browser.key("Tab")
+    holds(f"Tab comes to {wanted}", False)
+
+
+def try_tabs(page):
+    """Tab comes to each field and button, and it is seen where it is."""
     seen = set()
     for _ in range(40):
         page.browser.key("Tab")
@@ -106,7 +131,7 @@ def try_keyboard(page):
         outline = page.value("document.activeElement === document.body || document.activeElement.matches('#file') "
                              "|| getComputedStyle(document.activeElement).outlineStyle !== 'none'")
         holds(f"{page.value('document.activeElement.id')} shows that it has the focus", outline)
-    wanted = {"pitch", "height", "rule", "unit", "grid", "save_pngs", "copy", "file", "outlines", "nearer", "farther", "whole", "save",
+    wanted = {"printer", "pitch", "height", "rule", "unit", "save_pngs", "copy", "file", "outlines", "nearer", "farther", "whole", "save",
               "down", "layer", "up"}
     same(wanted - seen, set(), "what Tab does not come to")
 
@@ -123,8 +148,8 @@ def try_colours(page):
         dots = page.value("""(() => {
             by("outlines").checked = false;
             draw();
-            const { scale, left, top } = framed(), pen = by("image").getContext("2d");
-            const dot = (i, j) => [...pen.getImageData(left + (i + 0.5) * scale, top + (j + 0.5) * scale, 1, 1).data].slice(0, 3);
+            const { across, down, left, top } = framed(), pen = by("image").getContext("2d");
+            const dot = (i, j) => [...pen.getImageData(left + (i + 0.5) * across, top + (j + 0.5) * down, 1, 1).data].slice(0, 3);
             const bits = bits_now(), at = bits.findIndex((it) => it), empty = bits.findIndex((it) => !it), { columns } = opened;
             by("outlines").checked = true;
             return [dot(at % columns, Math.floor(at / columns)), dot(empty % columns, Math.floor(empty / columns))];
@@ -144,18 +169,19 @@ def try_colours(page):
 def try_kept(page):
     """What is set in the form is there again at the next visit; what is no value of a field is not taken."""
     page.load()
-    page.change(pitch=40, height=25, grid="canvas", columns=800, rows=600)
+    page.change(pitch=40, height=25, printer="own", columns=800, rows=600, width="47.25", turn=True)
     page.value("by('exposure').value = '3.5'; by('mirror_y').checked = true; by('archive').dispatchEvent(new Event('change'))")
     page.value("by('outlines').click()")
     page.load(is_kept=True)
-    ids = ["pitch", "height", "grid", "columns", "rows", "exposure"]
-    same(page.value(f"{json.dumps(ids)}.map((id) => by(id).value)"), ["40", "25", "canvas", "800", "600", "3.5"], "what was kept")
-    same(page.value("['mirror_x', 'mirror_y', 'outlines'].map((id) => by(id).checked)"), [False, True, False], "boxes that were kept")
-    holds("the canvas is seen", page.value("!by('columns').disabled && by('columns').checkVisibility()"))
-    for text in ('{"pitch": "-5", "height": "x", "rule": "9", "grid": 3}', "no JSON", "[]", "null"):
+    ids = ["pitch", "height", "printer", "columns", "rows", "width", "exposure"]
+    same(page.value(f"{json.dumps(ids)}.map((id) => by(id).value)"), ["40", "25", "own", "800", "600", "47.25", "3.5"], "what was kept")
+    same(page.value("['mirror_x', 'mirror_y', 'turn', 'outlines'].map((id) => by(id).checked)"), [False, True, True, False],
+         "boxes that were kept")
+    holds("the screen is seen", page.value("!by('columns').disabled && by('columns').checkVisibility()"))
+    for text in ('{"pitch": "-5", "height": "x", "rule": "9", "printer": "X", "turn": 3}', "no JSON", "[]", "null"):
         page.value(f"localStorage.setItem('stlslice', {json.dumps(text)})")
         page.load(is_kept=True)
-        same(page.value("['pitch', 'height', 'rule', 'grid'].map((id) => by(id).value)"), ["50", "50", "2", "fitted"],
+        same(page.value("['pitch', 'height', 'rule', 'printer'].map((id) => by(id).value)"), ["50", "50", "2", ""],
              f"the form after {text}")
     denied = "Object.defineProperty(window, 'localStorage', { get() { throw new Error('denied'); } })"
     number = page.browser.ask("Page.addScriptToEvaluateOnNewDocument", source=denied)["identifier"]
@@ -177,12 +203,18 @@ def try_command(page, program):
     names = {"a b's.stl": "'a b'\\''s.stl'", "-x.stl": "./-x.stl", "plain.stl": "plain.stl"}
     same(page.value(f"{json.dumps(list(names))}.map(named)"), list(names.values()), "names in a command")
     same([shlex.split(it)[0] for it in names.values()], ["a b's.stl", "./-x.stl", "plain.stl"], "words of a shell")
-    page.change(unit=0, grid="canvas", columns=800, rows=600)
+    page.change(unit=0, printer="own", columns=800, rows=600, width="100.0", depth="47.25")
     page.until(f"{IDLE} && opened.columns === 800")
     page.value("by('mirror_x').checked = true; by('material').value = 'a b'; by('archive').dispatchEvent(new Event('change'))")
-    same(page.text("command").strip(), "stlslice-sl1 --pitch 100 --layer 500 --rule positive --canvas 800x600 "
-         "--mirror-x --material 'a b' bracket.stl bracket.sl1", "the command of a canvas")
-    same("--grid" in page.text("command"), False, "the program's own word for a grid is not needed")
+    same(page.text("command").strip(), "stlslice-sl1 --canvas 800x600 --pitch 100x47.25 --mirror-x --layer 500 --rule positive "
+         "--material 'a b' bracket.stl bracket.sl1", "the command of a screen")
+    page.change(printer="SL1S", turn=True)
+    page.until(f"{IDLE} && opened.columns === 1620")
+    same(page.text("command").strip(), "stlslice-sl1 --printer SL1S --turn --layer 500 --rule positive --material 'a b' bracket.stl "
+         "bracket.sl1", "the command of a printer")
+    holds("the exposure is that of other layers", page.text("exposed").startswith("2 s is the exposure of Prusa Orange Tough"))
+    page.value("by('exposure').value = '2.5'; by('archive').dispatchEvent(new Event('change'))")
+    same([page.text("exposed"), "--exposure 2.5" in page.text("command")], ["", True], "the words on an exposure that is given")
     try_copy(page)
 
 

@@ -19,8 +19,9 @@
     }
     for (const it of document.querySelectorAll("button, select, .button, .check, #form label, #archive label"))
         if (is_seen(it) && it.scrollWidth > it.clientWidth + 1) found.push(`cut: ${it.textContent.trim().slice(0, 30)}`);
+    const right = (it) => it.getBoundingClientRect().right;
     for (const it of document.querySelectorAll("#command span"))
-        if (is_seen(it) && it.scrollWidth > it.parentElement.clientWidth + 1) found.push(`cut: ${it.textContent}`);
+        if (is_seen(it) && right(it) > right(it.parentElement) + 1) found.push(`over its edge: ${it.textContent}`);
     const layer = document.querySelector("#layer").getBoundingClientRect(), stage = document.querySelector("#stage").getBoundingClientRect();
     if (!scrollY && layer.bottom > innerHeight) found.push("the slider is below the window");
     if (layer.bottom - stage.top > innerHeight) found.push("picture and slider are not seen together");

@@ -9,26 +9,20 @@ import struct
 
 from common import holds, library_test, same, script
 
-NO_ROOM = 7
-
 
 def loops_of(mesh, k):
     """The library's loops: the points' numbers one after the other, and the end of each loop."""
     points, ends = (ctypes.c_int64 * 0)(), (ctypes.c_size_t * 0)()
     counts = ctypes.c_size_t(), ctypes.c_size_t()
-    while True:
-        status = mesh._status("loops", k, points, len(points) // 2, counts[0], ends, len(ends), counts[1])
-        if status != NO_ROOM:
-            same(status, 0, "status of the library's loops")
-            return list(points[:2 * counts[0].value]), list(ends[:counts[1].value])
+    while not mesh._ask("loops", k, points, len(points) // 2, counts[0], ends, len(ends), counts[1]):
         points, ends = (ctypes.c_int64 * (2 * counts[0].value))(), (ctypes.c_size_t * counts[1].value)()
+    return list(points[:2 * counts[0].value]), list(ends[:counts[1].value])
 
 
 def compare_layers(page, case, stlslice):
     told, name = page.in_worker(script("all_layers")), f"{case.path} {case.words}"
     same(base64.b64decode(told["images"]), case.stream, f"images of {name}")
     same(told["areas"], case.numbers(5), f"areas of {name}")
-    same(told["together"], case.numbers(5), f"areas in one call of {name}")
     same([len(it) for it in told["ends"]], case.numbers(3), f"loops of {name}")
     points = base64.b64decode(told["points"])
     points = list(struct.unpack(f"<{len(points) // 8}d", points))
@@ -36,6 +30,8 @@ def compare_layers(page, case, stlslice):
     with stlslice.open(case.path, options["pitch"], options["layer"], library_test.RULES[options["rule"]], options["grid"],
                        library_test.UNITS[options["unit"]]) as mesh:
         wanted = [loops_of(mesh, k) for k in range(len(mesh))]
+        same(told["together"], [list(map(int, mesh.areas(rule))) for rule in library_test.RULES], f"areas by each rule of {name}")
+    same(told["together"][options["rule"]], case.numbers(5), f"areas in one call of {name}")
     same(points, [it for found, _ in wanted for it in found], f"points of {name}")
     same(told["ends"], [ends for _, ends in wanted], f"ends of {name}")
 

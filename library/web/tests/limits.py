@@ -65,7 +65,7 @@ def try_full_stack(page):
 
 def must_refuse(page, line):
     """The worker refuses each call, the page says why, and the next opening has a new worker."""
-    for call in ("areas', { from: 0, milliseconds: 1 }", "png', { k: 9 }", "open', { pitch: 500, layer: 500, rule: 2, unit: 0 }"):
+    for call in ("areas', { from: 0, rule: 2, milliseconds: 1 }", "png', { k: 9 }", "open', { pitch: 500, layer: 500, rule: 2, unit: 0 }"):
         same(page.value(f"slicer.call('{call}).then(() => null, (it) => it.message)"), line, f"the call {call}")
     page.value("slicer.call('layer', { k: 9 }).catch((fault) => refused(fault, part))")
     page.until("!by('fault').hidden")

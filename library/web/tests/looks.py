@@ -8,7 +8,7 @@ from common import IDLE, PHONE, example, same, script
 # The windows of people, and the same at 200 %: half as wide and high, with two dots for each pixel along a side
 WINDOWS = {"desk": ((1440, 900), 1), "laptop": ((1024, 700), 1), "phone": (PHONE, 1),
            "desk_200": ((720, 450), 2), "laptop_200": ((512, 350), 2), "phone_200": ((195, 422), 2)}
-STATES = 7
+STATES = 8
 
 
 def look(page, folder, name):
@@ -35,8 +35,8 @@ def other_kind(room):
 
 
 def try_states(page, room, folder, name):
-    """The empty page, a part, a part on a canvas, below it the rest of the page, saving with a warning, a fault, a file that is no
-    STL."""
+    """The empty page, a part, a part on a printer's screen, on another, below it the rest of the page, saving with a warning, a fault,
+    a file that is no STL."""
     look(page, folder, f"{name}_empty")
     page.set(50, 50)
     page.take(example("supported"))
@@ -44,11 +44,15 @@ def try_states(page, room, folder, name):
     page.value("go(150)")
     page.k()
     look(page, folder, f"{name}_part")
-    page.change(grid="canvas")
-    page.until(f"{IDLE} && opened.columns === 2560")
+    page.change(printer="SL1S")
+    page.until(f"{IDLE} && opened.columns === 1620")
     page.k()
-    page.value("zoom(6)")
-    look(page, folder, f"{name}_canvas")
+    look(page, folder, f"{name}_printer")
+    page.change(printer="own", columns=11520, rows=5120, width="19", depth="24")
+    page.until(f"{IDLE} && opened.columns === 11520")
+    page.k()
+    page.value("zoom(3)")
+    look(page, folder, f"{name}_own")
     page.value("by('archive').querySelector('details').open = true; document.querySelector('aside').scrollTop = 300; scrollTo(0, 1e6)")
     look(page, folder, f"{name}_settings")
     page.value("scrollTo(0, 0); by('busy').hidden = false; by('busy_words').textContent = 'Saving supported.sl1'; tell_progress(120, 640);"
