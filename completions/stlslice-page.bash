@@ -12,16 +12,15 @@ _stlslice_page() {
     COMPREPLY=()
     case $before in
         --rule) mapfile -t COMPREPLY < <(compgen -W 'positive nonzero evenodd' -- "$word") ;;
-        --unit) mapfile -t COMPREPLY < <(compgen -W 'mm inch' -- "$word") ;;
+        --unit) mapfile -t COMPREPLY < <(compgen -W 'mm cm m inch' -- "$word") ;;
         --workers) mapfile -t COMPREPLY < <(compgen -W '1 2 4 8 16 32 64' -- "$word") ;;
         --pitch | --layer | --canvas | --title) ;;
-        --program) compopt -o default ;;
         *)
             if [[ $word != -* ]]; then
                 compopt -o default
                 return
             fi
-            local options=(--pitch --layer --rule --unit --canvas --title --workers --json --program --help)
+            local options=(--pitch --layer --rule --unit --canvas --title --workers --json --help)
             # each is given at most once
             local option given=" ${COMP_WORDS[*]:1:COMP_CWORD-1} "
             for option in "${options[@]}"; do

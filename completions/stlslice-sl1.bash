@@ -17,7 +17,6 @@ _stlslice_sl1() {
         --depth) mapfile -t COMPREPLY < <(compgen -W '1 8' -- "$word") ;;
         --workers) mapfile -t COMPREPLY < <(compgen -W '1 2 4 8 16 32 64' -- "$word") ;;
         --canvas | --pitch | --layer | --height | --exposure | --first-exposure | --fade | --material) ;;
-        --program) compopt -o default ;;
         *)
             if [[ $word != -* ]]; then
                 # --turn takes no word, or auto
@@ -40,7 +39,6 @@ _stlslice_sl1() {
                 --depth
                 --workers
                 --json
-                --program
                 --help
             )
             [[ ${COMP_WORDS[0]} == *pngs ]] || options+=(--exposure --first-exposure --fade --material)

@@ -15,7 +15,6 @@ for command in stlslice-sl1 stlslice-pngs
     complete -c $command -l depth -x -a '1 8' -d 'Bits of a PNG\'s pixel (default 8)'
     complete -c $command -l workers -x -a '1 2 4 8 16 32 64' -d 'Threads of the slicer, 1 to 64'
     complete -c $command -l json -d 'Write the last line as JSON'
-    complete -c $command -l program -r -d 'The slicer'
     complete -c $command -s h -l help -d 'Show the options'
 end
 complete -c stlslice-sl1 -l exposure -x -d 'Seconds a layer is exposed'

@@ -1,7 +1,16 @@
 """What the commands `stlslice-sl1`, `stlslice-pngs` and `stlslice-page` are made of. It needs Python's standard library (3.8 or
-later) and the program `stlslice`.
+later) and the module `stlslice`.
 
-`words` reads the options, with the table of `printers`; `parts` opens the part, `meshes` reads OBJ and 3MF, `stl` and `shells`
-rewrite an STL, with the decimals of `floats`; `slicing` puts it on the screen; `program` runs the program; `images` joins PNGs; `sl1`, `pngs` and `page`
-write what was asked for; `faults` has how the commands end, and what they say on standard error.
+`words` reads the options, with the table of `printers`; `parts` opens the part, with `meshes` for OBJ and 3MF and `shells` for many
+facets; `slicing` puts it on the screen; `images` makes and joins PNGs; `sl1`, `pngs` and `page`, with its `layers`, write what was
+asked for; `faults` has how the commands end, and what they say.
 """
+
+import os
+
+from . import faults  # noqa: F401, first, since it heeds signals while other modules are read
+
+# in the repository the library is the one that was built there
+BUILT = os.path.join(os.path.dirname(os.path.abspath(__file__)), "../../build/library/libstlslice.so")
+if os.path.exists(BUILT):
+    os.environ.setdefault("STLSLICE_LIBRARY", BUILT)

@@ -1,25 +1,23 @@
-"""How the commands end, and what they say on standard error."""
+"""How the commands end, and what they say."""
 
 import contextlib
 import errno
 import os
 import re
-import shutil
 import signal
 import sys
-import tempfile
+import threading
 import time
 
 SIGNALS = (signal.SIGHUP, signal.SIGINT, signal.SIGTERM)
 # Control characters, and what Python has for bytes of a name that are no UTF-8.
 UNSHOWN = re.compile("[\0-\x1f\x7f-\x9f\udc80-\udcff]")
-# What a signal removes, and what it ends: paths of outputs that aren't whole, and the program while it runs.
-ASIDE = []
-RUNNING = []
+BLOCK = 1 << 20
+ASIDE = []  # what a signal removes: paths of outputs that aren't whole
 
 
 class Refused(Exception):
-    """What ends a command: what the program said, if anything, the command's own line after it, or None, and the status."""
+    """What ends a command: what the library said, if anything, the command's own line after it, or None, and the status."""
 
     def __init__(self, line, status=1, told=""):
         super().__init__(line)
@@ -55,6 +53,18 @@ def say(line):
     tell(shown(f"{os.path.basename(sys.argv[0])}: {line}") + "\n")
 
 
+def in_mm(lengths):
+    return " x ".join(f"{float(n) / 1000:.3f}" for n in lengths)
+
+
+def as_json(output, layers, size, volume, **more):
+    """The last line for programs: sizes in millimetres, the volume in millilitres."""
+    import json  # only here, since each start reads what it imports anew
+
+    sides = [round(length / 1000, 3) for length in size]
+    return json.dumps({"output": output, "layers": layers, "size": sides, "millilitres": round(volume, 6), **more})
+
+
 def look_at_output(output, part):
     """Refuses an output that is there and no plain file, or is the part. The name - is standard output."""
     if output == "-":
@@ -79,11 +89,13 @@ def aside(output):
 
 
 def remove(path):
-    """Removes a file or a folder, if it is there."""
-    if os.path.isdir(path):
-        shutil.rmtree(path, ignore_errors=True)
-    else:
-        with contextlib.suppress(FileNotFoundError):
+    """Removes a file, or a folder of files, if it is there."""
+    with contextlib.suppress(OSError):
+        if os.path.isdir(path):
+            for name in os.listdir(path):
+                os.remove(os.path.join(path, name))
+            os.rmdir(path)
+        else:
             os.remove(path)
 
 
@@ -92,6 +104,7 @@ def whole_file(output):
     """A file for bytes, made aside. It has the output's name once the block has ended well; otherwise it is removed. With - it is
     one without a name."""
     if output == "-":
+        import tempfile  # only here, since each start reads what it imports anew
         with named("TMPDIR"), named(tempfile.gettempdir()), tempfile.TemporaryFile() as file:
             yield file
         return
@@ -111,7 +124,8 @@ def finish(output, line, file=None):
             write(sys.stdout, line + "\n")
             return
         file.seek(0)
-        shutil.copyfileobj(file, sys.stdout.buffer)
+        for block in iter(lambda: file.read(BLOCK), b""):
+            sys.stdout.buffer.write(block)
         write(sys.stdout)
     tell(line + "\n")
 
@@ -158,15 +172,33 @@ class Progress:
         cls.drawn, cls.moment = False, 0.0
 
 
+def answers(*calls, rank=lambda fault: 0):
+    """What calls return that take long, each made in a thread of its own: Python heeds a signal only between its own steps. Of their
+    faults the one of the least rank is raised."""
+    found, faults = [None] * len(calls), []
+
+    def call(number):
+        try:
+            found[number] = calls[number]()
+        except Exception as fault:
+            faults.append(fault)
+
+    threads = [threading.Thread(target=call, args=(number,), daemon=True) for number in range(len(calls))]
+    for it in threads:
+        it.start()
+    for it in threads:
+        it.join()
+    if faults:
+        raise min(faults, key=rank)
+    return found
+
+
 def stop(number, _):
     """Ends the command by a signal, and removes what isn't whole. Further signals are ignored meanwhile. No exception is raised:
     it would end whatever the signal came upon, such as `zipfile` in the middle of an entry, which then raises its own."""
     listen(signal.SIG_IGN)
-    for child in RUNNING:
-        child.kill()
     for path in ASIDE:
-        with contextlib.suppress(OSError):
-            remove(path)
+        remove(path)
     if Progress.drawn:
         with contextlib.suppress(OSError):
             os.write(sys.stderr.fileno(), Progress.CLEAR.encode())
@@ -189,6 +221,8 @@ def end_of(fault):
     """The line and the status of a fault."""
     if isinstance(fault, Refused):
         return fault.line, fault.status
+    if isinstance(fault, ImportError):
+        return str(fault), 1
     if isinstance(fault, MemoryError) or fault.errno == errno.ENOMEM:
         return "out of memory", 6
     # the line has the name that was given, not the one that an output has until it is whole
@@ -197,7 +231,7 @@ def end_of(fault):
 
 
 def ended(main):
-    """Runs a command, and ends with its status: 0, the program's, or that of a fault."""
+    """Runs a command, and ends with its status: 0, the library's, or that of a fault."""
     sys.stdout, sys.stderr = (it or open(os.devnull, "w") for it in (sys.stdout, sys.stderr))
     sys.stdout.reconfigure(errors="backslashreplace")
     try:
@@ -206,7 +240,7 @@ def ended(main):
         finally:
             with named("standard output"):
                 write(sys.stdout)
-    except (Refused, MemoryError, OSError) as fault:
+    except (Refused, ImportError, MemoryError, OSError) as fault:
         line, status = end_of(fault)
         Progress.clear()
         tell(getattr(fault, "told", ""))

@@ -1,29 +1,39 @@
 """OBJ and 3MF as points in whole micrometres, and triangles of their indices. Each coordinate is exact until it is rounded,
 once."""
 
+import decimal
 import errno
 import functools
 import io
-import math
 import re
 import struct
 import zipfile
 import zlib
 from array import array
-from fractions import Fraction
+from decimal import Decimal
 from xml.parsers import expat
 
-from .faults import Progress, Refused
-from .stl import BLOCK, FACETS, KEPT, LONGEST, NUMBER, fault_of_number, is_far, rounded, scaled, size_of
+import stlslice
+
+from .faults import BLOCK, Progress, Refused
+
+# Sums and products of numbers are exact. One that is far too large becomes infinite, and one that is far too small 0.
+EXACT = decimal.Context(prec=4000, Emin=-1000, Emax=1000, traps=[])
+NUMBER = re.compile(rb"[-+]?(?:\d+(?:\.\d*)?|\.\d+)(?:[eE][-+]?\d+)?")
+LONGEST = 255  # bytes of a number
+FAR = Decimal("128000.0005")  # millimetres from 0, which round to more than a corner may have
+FACETS = 1_048_576  # of a mesh, at most
+BATCH = 4096  # points that are rounded at a time
 
 FLAT = 5  # micrometres by which a polygon of an OBJ may be off a plane, and off being convex
 LINE = 1 << 20  # bytes of a line of an OBJ, and of XML without an event
 INDEX = re.compile(rb"(-?\d{1,9})(?:/-?\d*)?(?:/-?\d+)?")
 IGNORED = {b"vn", b"vt", b"g", b"o", b"s", b"usemtl", b"mtllib", b"l", b"p"}
+OBJ_UNITS = {"mm": Decimal(1), "cm": Decimal(10), "m": Decimal(1000), "inch": Decimal("25.4")}
 
 CORE = "http://schemas.microsoft.com/3dmanufacturing/core/2015/02 "
 MODEL = "http://schemas.microsoft.com/3dmanufacturing/2013/01/3dmodel"
-UNITS = {"micron": 1, "millimeter": 1000, "centimeter": 10_000, "inch": 25_400, "foot": 304_800, "meter": 1_000_000}
+UNITS = {"micron": "0.001", "millimeter": "1", "centimeter": "10", "inch": "25.4", "foot": "304.8", "meter": "1000"}
 IDENTITY = "1 0 0 0 1 0 0 0 1 0 0 0"
 # Files in which slicers say that a part of a mesh is none of the body.
 NO_BODY = re.compile(rb"ParameterModifier|NegativeVolume|Support(?:Enforcer|Blocker)|"
@@ -40,78 +50,91 @@ class NotTaken(Exception):
     """What isn't taken here, and may be by another tool."""
 
 
+class Points:
+    """Points in millimetres, which become whole micrometres some at a time."""
+
+    def __init__(self):
+        self.rounded, self.waiting = array("i"), []
+
+    def __len__(self):
+        return len(self.rounded) // 3 + len(self.waiting)
+
+    def add(self, point):
+        self.waiting.append(point)
+        if len(self.waiting) == BATCH:
+            self.whole()
+
+    def whole(self):
+        """All of them, in micrometres, one coordinate after the other."""
+        if self.waiting:
+            for point in stlslice.micrometres(self.waiting):
+                self.rounded.extend(point)
+            self.waiting.clear()
+        return self.rounded
+
+
 def read(kind, file, given):
     """The points and triangles of an OBJ or a 3MF."""
     if kind == "OBJ":
         return read_obj(file, given.unit)
     if given.unit != "mm":
         raise Refused("a 3MF has a unit of its own: leave out --unit", 2)
-    # of more facets the program takes no mesh, but shells of a larger one
+    # of more facets the library takes no mesh, but shells of a larger one
     return read_3mf(file, 16 * FACETS if getattr(given, "shells", False) else FACETS)
 
 
-def corners_of(points, triangles):
-    """The texts of the three corners of each facet, in millimetres."""
-    def spelled(at):
-        return b"%de-3 %de-3 %de-3" % tuple(points[3 * at:3 * at + 3])
-
-    for at in range(0, len(triangles), 3):
-        yield tuple(map(spelled, triangles[at:at + 3]))
+def number(word):
+    """A number, as it is written."""
+    if len(word) > LONGEST or not NUMBER.fullmatch(word):
+        raise ValueError(f"{word[:20].decode(errors='replace')!r} is {'too long' if len(word) > LONGEST else 'not a number'}")
+    return EXACT.create_decimal(word.decode())
 
 
 def read_obj(file, unit):
     """The points and triangles of an OBJ, its `v` and `f`, whose numbers are of this unit. A polygon that is flat and convex is
     cut into triangles from its first corner."""
-    points, triangles, known = array("q"), array("I"), {}
-    for number, (word, *words) in lines_of(file):
+    points, triangles, times = Points(), array("I"), OBJ_UNITS[unit]
+    for at, (word, *words) in lines_of(file):
         try:
             if word == b"v":
-                points.extend(coordinate(it, unit, known) for it in (*words, b"", b"", b"")[:3])
+                points.add([coordinate(it, times) for it in (*words, b"", b"", b"")[:3]])
             elif word == b"f":
-                triangles.extend(fan(points, [index(it, len(points) // 3) for it in words]))
+                triangles.extend(fan(points.whole(), [index(it, len(points)) for it in words]))
             elif word not in IGNORED:
                 raise NotTaken(f"{word[:20].decode(errors='replace')} isn't taken")
         except NotTaken as fault:
-            raise NotTaken(f"line {number:,} of the OBJ: {fault}")
+            raise NotTaken(f"line {at:,} of the OBJ: {fault}")
         except ValueError as fault:
-            raise Refused(f"line {number:,} of the OBJ: {fault}", 3)
-    return points, triangles
+            raise Refused(f"line {at:,} of the OBJ: {fault}", 3)
+    return points.whole(), triangles
 
 
 def lines_of(file):
     """The words of each line that has some, with its number. A line may go on after a backslash."""
-    file.seek(0)
-    number, held = 0, b""
-    size = size_of(file)
-    file.seek(0)
-    while True:
-        line = file.readline(LINE + 1)
-        number += 1
-        if number % 4096 == 0:
-            Progress.show(f"reading: {100 * file.tell() // size} %")
+    held, at = b"", 0
+    for at, line in enumerate(file, 1):
         if len(held) + len(line) > LINE:
-            raise Refused(f"line {number:,} of the OBJ has more than {LINE:,} bytes", 3)
-        held += line.partition(b"#")[0]
-        if line.rstrip().endswith(b"\\") and b"#" not in line:
-            held = held.rstrip()[:-1] + b" "
+            raise Refused(f"line {at:,} of the OBJ has more than {LINE:,} bytes", 3)
+        held += line.partition(b"#")[0].rstrip()
+        if held.endswith(b"\\"):
+            held = held[:-1] + b" "
             continue
-        if held.split():
-            yield number, held.split()
+        if held:
+            yield at, held.split()
         held = b""
-        if not line:
-            return
+        if at % 4096 == 0:
+            Progress.show(f"reading: line {at:,}")
+    if held.split():
+        yield at, held.split()
 
 
-def coordinate(word, unit, known):
-    """A number in whole micrometres."""
-    found = known.get(word)
-    if found is None:
-        fault = fault_of_number(word, unit)
-        if fault:
-            raise ValueError(f"{word[:20].decode(errors='replace')!r} is {fault}" if word else "v has fewer than three numbers")
-        if len(known) > KEPT:
-            known.clear()
-        found = known[word] = rounded(word, unit)
+def coordinate(word, times):
+    """A number in millimetres, once it is multiplied."""
+    if not word:
+        raise ValueError("v has fewer than three numbers")
+    found = EXACT.multiply(number(word), times)
+    if not abs(found) < FAR:
+        raise ValueError(f"{word[:20].decode()!r} is out of range")
     return found
 
 
@@ -182,7 +205,8 @@ def read_3mf(file, most):
             model = Model(most)
             with opened(archive, model_of(archive)) as stream:
                 fed(model.start, model.end, stream)
-        return model.placed()
+        with decimal.localcontext(EXACT):
+            return model.placed()
     except DAMAGED as fault:
         # zipfile seeks where an entry says
         if isinstance(fault, OSError) and fault.errno != errno.EINVAL:
@@ -193,7 +217,7 @@ def read_3mf(file, most):
 
 def refuse_large_directory(file):
     """The list of a zip's entries is held whole, so its size is looked at before."""
-    size = size_of(file)
+    size = file.seek(0, io.SEEK_END)
     file.seek(max(0, size - 65_557))
     tail = file.read()
     at = tail.rfind(b"PK\5\6")
@@ -308,8 +332,11 @@ class Model:
         self.object = self.objects[words["id"]] = Object(words["id"], words.get("type", "model"), self.most)
 
     def take_vertex(self, words):
+        places = [words[axis].split() for axis in "xyz"]
+        if any(len(it) != 1 for it in places):
+            raise ValueError("a vertex has a coordinate that is not a number")
         self.object.points += 1
-        self.object.lines += f"{words['x'].strip()} {words['y'].strip()} {words['z'].strip()}\n".encode()
+        self.object.lines += " ".join(it[0] for it in places).encode() + b"\n"
 
     def take_triangle(self, words):
         corners = words["v1"], words["v2"], words["v3"]
@@ -335,10 +362,9 @@ class Model:
         return found
 
     def placed(self):
-        points, triangles = array("q"), array("I")
-        unit = [[Fraction(self.unit * (k == j)) for j in range(3)] for k in range(4)]
-        self.items.place(unit, points, triangles)
-        return points, triangles
+        points, triangles, unit = Points(), array("I"), Decimal(self.unit)
+        self.items.place([[unit * (k == j) for j in range(3)] for k in range(4)], points, triangles)
+        return points.whole(), triangles
 
 
 class Object:
@@ -359,10 +385,14 @@ class Object:
             raise ValueError("its components are too deep in each other")
 
     def place(self, matrix, points, triangles):
-        """Adds the points in micrometres and the triangles. A mirror image is turned inside out again."""
-        first = len(points) // 3
-        if self.lines:
-            points.extend(self.micrometres(matrix))
+        """Adds the points in millimetres and the triangles. A mirror image is turned inside out again."""
+        first, columns = len(points), list(zip(*matrix))
+        for line in io.BytesIO(self.lines):
+            place = list(map(number, line.split()))
+            point = [dot(column, place) + column[3] for column in columns]
+            if not all(abs(it) < FAR for it in point):
+                raise ValueError(f"object {self.id} reaches beyond 128 m from the origin")
+            points.add(point)
         corners = self.triangles
         if is_mirror(matrix):
             corners = array("I", corners)
@@ -371,48 +401,18 @@ class Object:
         for other, within in self.components:
             other.place(product(within, matrix), points, triangles)
 
-    def micrometres(self, matrix):
-        """Each coordinate after the other. Sums and products are exact, and rounded halves away from zero."""
-        whole = 1
-        for denominator in (it.denominator for row in matrix for it in row):
-            whole *= denominator // math.gcd(whole, denominator)
-        rows = [[int(it * whole) for it in row] for row in matrix]
-        columns = list(zip(*rows))
-        for line in io.BytesIO(self.lines):
-            words = [decimal(word) for word in line.split()]
-            least = min(0, *(shift for _, shift in words))
-            x, y, z = (number * 10 ** (shift - least) for number, shift in words)
-            scale = 10 ** -least
-            for a, b, c, d in columns:
-                number = a * x + b * y + c * z + d * scale
-                size = (2 * abs(number) + whole * scale) // (2 * whole * scale)
-                if is_far(size):
-                    raise ValueError(f"object {self.id} reaches beyond 128 m from the origin")
-                yield -size if number < 0 else size
-
-
-def decimal(word):
-    """A number as a whole one and the power of ten that it is multiplied by."""
-    if len(word) > LONGEST or not re.fullmatch(NUMBER, word):
-        raise ValueError(f"{word[:20].decode(errors='replace')!r} is no number")
-    number, shift = scaled(word)
-    if not number or shift < -300:
-        return 0, 0
-    if shift > 20:
-        raise ValueError(f"{word[:20].decode()!r} is too large")
-    return number, shift
-
 
 @functools.lru_cache(maxsize=256)
 def matrix_of(text):
     """The three rows of a transform, by which x, y and z are multiplied, and the fourth, which is added."""
-    words = text.split()
+    words = text.encode().split()
     if len(words) != 12 or max(map(len, words)) > TRANSFORM:
         raise ValueError(f"a transform hasn't twelve numbers of at most {TRANSFORM} bytes")
-    words = [number * Fraction(10) ** shift for number, shift in (decimal(word.encode()) for word in words)]
+    words = list(map(number, words))
     found = [words[k:k + 3] for k in (0, 3, 6, 9)]
-    if not dot(cross(*found[:2]), found[2]):
-        raise ValueError("a transform makes an object flat")
+    with decimal.localcontext(EXACT):
+        if not dot(cross(*found[:2]), found[2]):
+            raise ValueError("a transform makes an object flat")
     return found
 
 

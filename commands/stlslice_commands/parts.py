@@ -1,16 +1,16 @@
-"""What people have: an STL as text, a binary one, an OBJ, a 3MF, or another format, which is refused with the command that converts
-it."""
+"""What people have: an STL, ASCII or binary, an OBJ, a 3MF, or another format, which is refused with the command that converts it."""
 
-import contextlib
-import functools
+import io
 import itertools
 import os
 import re
 import shlex
 import sys
+from functools import partial
 
-from .faults import Refused, named, say
-from .stl import BLOCK, corners_of_binary, facets_of_binary, size_of, temporary, text_of
+import stlslice
+
+from .faults import Progress, Refused, answers, named, say
 
 # What makes an STL of each format that isn't one; each was tried. {0} is the file, {1} the STL to make.
 PRUSASLICER = "prusa-slicer --export-stl --output {1} {0}"
@@ -22,47 +22,96 @@ KINDS = {
     "OBJ": re.compile(rb"(?:\s|#[^\n]*\n)*(?:v|vn|vt|vp|f|o|g|s|mtllib|usemtl)[ \t]"),
     "AMF": re.compile(rb"(?:\xef\xbb\xbf)?\s*(?:<[?!][^>]*>\s*)*<amf[\s>]"),
 }
+TOO_MANY = "too many facets"
+SHELLS = "a mesh has at most 1,048,576 facets; --shells slices a larger part shell by shell, if it has several"
+OPEN = 4  # the library's status if a mesh is open
+ONE_VOXEL = {"pitch": 1000, "layer": 1000, "grid": (1, 1, 1, 0, 0, 0)}
 
 
-@contextlib.contextmanager
-def opened(given):
-    """The part as an STL that can be read twice, a pipe copied first, and the unit of its numbers. An OBJ and a 3MF are written out
-    as text, and one of another format is refused."""
-    path = given.part
-    if path == "-" and not sys.stdin:
+class Part:
+    """A part that was read, and can be opened: as one mesh, or with --shells as one for each group of its shells."""
+
+    def __init__(self, given):
+        Progress.show("reading", is_new=True)
+        self.shells = getattr(given, "shells", None)  # None if there is no such option
+        data = read(given.part)
+        arrays = arrays_of(data, given)
+        if self.shells:
+            from .shells import facets_of, grouped  # only here, since each start reads what it imports anew
+            facets = facets_of(*arrays) if arrays else self.asked(partial(stlslice.read, data, given.unit))[0]
+            points, groups, more = grouped(facets)
+            # an open edge is told as it is without the facets that are put to each group
+            self.asked(*(partial(stlslice.open_mesh, points, it, **ONE_VOXEL) for it in groups))
+            self.calls = [partial(stlslice.open_mesh, points, it + more) for it in groups]
+            self.box = partial(box_of, points, more)
+        elif arrays:
+            self.calls, self.box = [partial(stlslice.open_mesh, *arrays)], partial(box_of, *arrays)
+        else:
+            self.calls, self.box = [partial(stlslice.open, data, unit=given.unit)], partial(stlslice.box, data, given.unit)
+
+    def open(self, **how):
+        """The meshes, opened as `how` says in the words of `stlslice.open`. If the part doesn't fit its canvas, a FitFault is
+        raised, and any other fault of the library ends the command with its line."""
+        return self.asked(*(partial(call, **how) for call in self.calls))
+
+    def asked(self, *calls):
+        """What the library's calls return. Of open edges the least of all meshes is told, as if they were one."""
+        try:
+            return answers(*calls, rank=lambda it: [int(word) for word in re.findall(r"-?\d+", str(it))]
+                           if getattr(it, "status", 0) == OPEN else [1 << 31])
+        except (stlslice.FitFault, MemoryError):
+            raise
+        except stlslice.Fault as fault:
+            if str(fault) == "no facet is left" and not self.box().facets:
+                raise Refused("the part has no facets")
+            is_large = TOO_MANY in str(fault)
+            raise Refused(SHELLS if is_large and self.shells is False else None, 3 if is_large else fault.status, fault.line + "\n")
+
+
+def size_of(box):
+    return [after - before for before, after in zip(box.low, box.high)]
+
+
+def box_of(points, triangles):
+    """The box of the facets of arrays. They need not be closed."""
+    low, high = ([end((points[3 * it + k] for it in triangles), default=0) for k in range(3)] for end in (min, max))
+    return stlslice.Box(len(triangles) // 3, low, high)
+
+
+def read(path):
+    """The bytes of a file, or of standard input."""
+    if path != "-":
+        with named(path), open(path, "rb", buffering=0) as file:
+            return file.read()
+    if not sys.stdin:
         raise Refused("standard input is closed")
-    with contextlib.ExitStack() as stack:
-        file = sys.stdin.buffer if path == "-" else stack.enter_context(open(path, "rb"))
-        if path == "-" and sys.stdin.isatty():
-            say("a part is awaited on standard input")
-        if path == "-" or not file.seekable():
-            file = stack.enter_context(temporary(iter(functools.partial(file.read, BLOCK), b"")))
-        with named(path):
-            corners = corners_of_mesh(file, given)
-        yield (file, given.unit) if corners is None else (stack.enter_context(text_of(corners)), "mm")
+    if sys.stdin.isatty():
+        say("a part is awaited on standard input")
+    with named("standard input"):
+        return sys.stdin.buffer.raw.read()
 
 
-def corners_of_mesh(file, given):
-    """The corners of the facets of an OBJ or a 3MF, or None if the file may be STL. One of another format is refused."""
-    if facets_of_binary(file) is not None:
+def arrays_of(data, given):
+    """The points and triangles of an OBJ or a 3MF, or None if the bytes may be an STL. Those of another format are refused."""
+    head, size = data[:1024], len(data)
+    count = int.from_bytes(head[80:84], "little")
+    if size >= 84 and size == 84 + 50 * count:
         return None
-    file.seek(0)
-    head = file.read(1024)
     kind = kind_of(head)
     name = "part." + kind.lower() if kind and given.part == "-" else given.part
     if kind in ("OBJ", "3MF"):
-        from . import meshes  # only here, since each start reads what it imports anew
+        from . import meshes
         try:
-            return meshes.corners_of(*meshes.read(kind, file, given))
+            return meshes.read(kind, io.BytesIO(data), given)
         except meshes.NotTaken as fault:
             raise Refused(f"{fault}; convert it: {command_for(kind, name)}", 3)
     if kind:
         raise Refused(f"the part is {kind}, not STL; {'unpack' if 'zip' in kind else 'convert'} it: {command_for(kind, name)}", 3)
     # a binary STL has a 0 there, in its count of facets at the latest
-    if b"\0" in head[:84] and not head.startswith((b"\xff\xfe", b"\xfe\xff")) and size_of(file) >= 84:
-        count = int.from_bytes(head[80:84], "little")
+    if b"\0" in head[:84] and not head.startswith((b"\xff\xfe", b"\xfe\xff")) and size >= 84:
         raise Refused(f"the part is no text, and no whole binary STL: its header counts {count:,} facets, which take "
-                      f"{84 + 50 * count:,} bytes, and it has {size_of(file):,}", 3)
+                      f"{84 + 50 * count:,} bytes, and it has {size:,}", 3)
+    return None
 
 
 def command_for(kind, name):
@@ -89,9 +138,3 @@ def kind_of(head):
     if head.startswith(b"\x1f\x8b"):
         return "gzip"
     return next((kind for kind, begin in KINDS.items() if begin.match(head)), None)
-
-
-def as_text(file):
-    """The part as ASCII STL: the file itself, or a binary one written out. Of each number of that the shortest decimal is taken
-    that reads back as the same."""
-    return file if facets_of_binary(file) is None else text_of(corners_of_binary(file))

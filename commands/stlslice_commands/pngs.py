@@ -3,11 +3,9 @@
 import os
 
 from . import words
-from .faults import Refused, aside, finish, named
-from .parts import opened
-from .slicing import Sliced
+from .faults import Refused, aside, ended, finish, named
 
-ABOUT = """Slices an STL into a folder of PNGs, one a layer: NAME/00000.png is the lowest. The part stands in the middle
+ABOUT = """Slices a part into a folder of PNGs, one a layer: NAME/00000.png is the lowest. The part stands in the middle
 of the screen, white on black; one that doesn't fit is refused. The folder must be new or empty; it is made aside and
 moved into place when it is whole."""
 
@@ -25,10 +23,14 @@ def main():
         raise Refused(f"{folder} is a link or a mount point, in whose place no folder can be moved")
     with aside(folder) as path:
         os.mkdir(path)
-        with opened(given) as (source, unit):
-            sliced = Sliced(given, source, unit)
-            for number, (png, _) in enumerate(sliced.pngs()):
-                with named(folder), open(os.path.join(path, f"{number:05}.png"), "xb") as file:
-                    file.write(png)
+        from .slicing import Sliced  # only here, so that what is wrong is told at once
+        sliced = Sliced(given)
+        for number, (png, _) in enumerate(sliced.pngs()):
+            with named(folder), open(os.path.join(path, f"{number:05}.png"), "xb") as file:
+                file.write(png)
         finish(folder, sliced.told(folder))
         os.rename(path, folder)
+
+
+def run():
+    ended(main)

@@ -1,38 +1,69 @@
-"""A part of many facets as several texts of whole shells, each small enough for the program."""
+"""A part of many facets as several meshes of whole shells, each small enough for the library."""
 
-import tempfile
 from array import array
 
-from .faults import Refused, named
-from .stl import (BEGIN, END, FACETS, KEPT, TEXT, corners_of_binary, corners_of_text, facets_of_binary, is_far, rounded,
-                  temporary)
+from .faults import Progress, Refused
 
-LIMIT = FACETS
+LIMIT = 1_048_576 - 2  # facets of a group, beside the two that are put to it
+BLOCK = 1 << 16
 
 
-def groups(file, unit):
-    """Files of at most LIMIT facets, which hold all facets of the part: those of a shell in one file, in their order."""
-    def corners_of(file):
-        return corners_of_text(file, unit) if facets_of_binary(file) is None else corners_of_binary(file)
+def facets_of(points, triangles):
+    """The facets of arrays, each by its three corners."""
+    for at in range(0, len(triangles), 3):
+        yield [points[3 * it:3 * it + 3] for it in triangles[at:at + 3]]
 
-    shell_of = shells(corners_of(file), unit)
-    sizes = {}
+
+def grouped(facets):
+    """The points of a part, each once, and groups of at most LIMIT of its triangles, which together are all of them: those of a
+    shell are in one group, in their order. Facets belong to one shell if they share a corner. Last come two facets that are to be
+    put to each group, so that all stand in one place of a screen: one reaches through the part's box, and the other is the same
+    turned round, so no pixel is another."""
+    number_of, points, triangles, above = {}, array("i"), array("I"), array("l")
+    for facet in in_blocks(facets):
+        corners = []
+        for corner in map(tuple, facet):
+            number = number_of.setdefault(corner, len(number_of))
+            if number == len(above):
+                points.extend(corner)
+                above.append(number)
+            corners.append(number)
+        triangles.extend(corners)
+        one = root(above, corners[0])
+        for it in corners[1:]:
+            above[root(above, it)] = one
+    del number_of
+    if not triangles:
+        raise Refused("the part has no facets")
+    shell_of = array("l", (root(above, it) for it in triangles[::3]))
+    group_of, count = packed(shell_of)
+    found = [array("I") for _ in range(count)]
+    for at, shell in enumerate(shell_of):
+        found[group_of[shell]].extend(triangles[3 * at:3 * at + 3])
+    # degenerate facets don't count for the place on a screen
+    corners = (triangles[at:at + 3] for at in range(0, len(triangles), 3))
+    kept, last = {it for facet in corners if len(set(facet)) == 3 for it in facet} or {0}, len(points) // 3
+    low, high = (array("i", [end(points[3 * it + k] for it in kept) for k in range(3)]) for end in (min, max))
+    between = next((it for it in kept if points[3 * it:3 * it + 3] not in (low, high)), 0)
+    points.extend(low + high)
+    return points, found, array("I", [last, last + 1, between, last, between, last + 1])
+
+
+def in_blocks(facets):
+    """The facets one by one. Those of numpy are handed out faster as lists."""
+    if not hasattr(facets, "tolist"):
+        yield from facets
+        return
+    for at in range(0, len(facets), BLOCK):
+        yield from facets[at:at + BLOCK].tolist()
+        Progress.show(f"reading: facet {at:,} of {len(facets):,}")
+
+
+def packed(shell_of):
+    """The group of each shell, and how many groups there are: each shell stands in the first group that has room for it."""
+    sizes, group_of, room = {}, {}, []
     for shell in shell_of:
         sizes[shell] = sizes.get(shell, 0) + 1
-    group_of, count = packed(sizes)
-    files = [temporary([BEGIN]) for _ in range(count)]
-    with named(tempfile.gettempdir()):
-        for corners, shell in zip(corners_of(file), shell_of):
-            files[group_of[shell]].write(TEXT % corners)
-        for it in files:
-            it.write(END)
-            it.flush()
-    return files
-
-
-def packed(sizes):
-    """The group of each shell, and how many groups there are: each shell stands in the first group that has room for it."""
-    group_of, room = {}, []
     for shell, size in sizes.items():
         if size > LIMIT:
             raise Refused(f"the part has a shell of {size:,} facets, and a mesh has at most {LIMIT:,}: export it coarser", 3)
@@ -44,49 +75,8 @@ def packed(sizes):
     return group_of, len(room)
 
 
-def shells(facets, unit):
-    """For each facet, given by its corners, the shell that it belongs to, by a number: facets that share a corner belong to one
-    shell. Corners are the same if they round to the same micrometre, as the program rounds them in this unit."""
-    number_of, above, first = Corners(unit), array("l"), array("l")
-    for corners in facets:
-        one, *others = map(number_of, corners)
-        above.extend(range(len(above), len(number_of.numbers)))
-        one = root(above, one)
-        for other in others:
-            above[root(above, other)] = one
-        first.append(one)
-    return array("l", (root(above, at) for at in first))
-
-
 def root(above, at):
     """The corner that stands for all of its shell, as far as it is known yet."""
     while above[at] != at:
         above[at] = at = above[above[at]]
     return at
-
-
-class Corners:
-    """A number for each corner, counted from 0, by its text."""
-
-    def __init__(self, unit):
-        self.unit = unit
-        self.numbers = {}
-        self.texts = {}
-
-    def __call__(self, text):
-        found = self.texts.get(text)
-        if found is None:
-            if len(self.texts) > KEPT:
-                self.texts.clear()
-            x, y, z = (micrometres(word, self.unit) for word in text.split())
-            place = (x << 80) + (y << 40) + z
-            found = self.texts[text] = self.numbers.setdefault(place, len(self.numbers))
-        return found
-
-
-def micrometres(word, unit):
-    """A number in micrometres. One that is out of range is a binary part's: those of a text were looked at when it was read."""
-    number = rounded(word, unit)
-    if is_far(number):
-        raise Refused(f"the number {word.decode()} is out of range: a corner lies within 128 m of the origin", 3)
-    return number

@@ -1,23 +1,22 @@
 """`stlslice-sl1`: a part as an SL1 archive. That is a zip of one PNG a layer, a config.ini for the printer, and a prusaslicer.ini
 for programs that read the archive again. PrusaSlicer writes such archives for the Original Prusa SL1 and SL1S."""
 
-import argparse
 import os
 import re
 import time
 import zipfile
 
 from . import words
-from .faults import Refused, finish, look_at_output, say, shown, whole_file
-from .parts import opened
-from .slicing import Sliced
+from .faults import Refused, ended, finish, look_at_output, say, shown, whole_file
 
-ABOUT = """Slices an STL into an SL1 archive for a resin printer. The part stands in the middle of the screen, white on
+ABOUT = """Slices a part into an SL1 archive for a resin printer. The part stands in the middle of the screen, white on
 black; one that doesn't fit is refused. The archive is made aside and moved into place when it is whole, so a fault
 leaves what was there before."""
 
 LATEST = (2107, 12, 31, 23, 59, 58)  # the last moment that a zip can hold
-LEVEL = 1  # of deflating the program's PNGs once more: long runs of pixels are bytes 0 in them
+LEVEL = 1  # of deflating the library's PNGs once more: long runs of pixels are bytes 0 in them
+COUNT = words.taking("a whole number, 0 to 999", r"\d{1,3}", int)
+SECONDS = words.taking("seconds above 0 and below 100000, as 2.2", r"\d{1,5}(?:\.\d{1,6})?", lambda text: float(text) or None)
 FIRST = 3  # layers with the first exposure, before it fades to that of the others
 
 
@@ -31,17 +30,18 @@ class Defaults:
 def main():
     parser = words.parser(ABOUT, "the archive to write, as out.sl1")
     add = parser.add_argument
-    add("--exposure", type=seconds, metavar="S",
+    add("--exposure", type=SECONDS, metavar="S",
         help="seconds a layer is exposed (the printer's, else 2.2); a line says if that is for layers of another height")
-    add("--first-exposure", type=seconds, metavar="S", help="the same of the first layers (the printer's, else 25)")
-    add("--fade", type=count, metavar="N", help="layers over which the exposure fades from the first to the other (10)")
+    add("--first-exposure", type=SECONDS, metavar="S", help="the same of the first layers (the printer's, else 25)")
+    add("--fade", type=COUNT, metavar="N", help="layers over which the exposure fades from the first to the other (10)")
     add("--material", type=one_line, metavar="NAME", help="the resin's name, for the printer to show (the printer's, else resin)")
     given = words.read(parser)
     fill_in(given)
     now = moment()
     look_at_output(given.output, given.part)
-    with whole_file(given.output) as file, opened(given) as (source, unit):
-        sliced = Sliced(given, source, unit)
+    with whole_file(given.output) as file:
+        from .slicing import Sliced  # only here, so that what is wrong is told at once
+        sliced = Sliced(given)
         with zipfile.ZipFile(file, "w") as archive:
             duration = fill(archive, sliced, job_name(given.output), now)
         finish(given.output, sliced.told(given.output, seconds=round(duration, 1)), file)
@@ -162,19 +162,11 @@ def exposure_of(number, given):
     return given.exposure if faded > given.fade else given.first_exposure - faded * step
 
 
-def count(text):
-    if not re.fullmatch(r"\d{1,3}", text):
-        raise argparse.ArgumentTypeError("it takes a whole number, 0 to 999")
-    return int(text)
-
-
-def seconds(text):
-    if not re.fullmatch(r"\d{1,5}(\.\d{1,6})?", text) or not float(text):
-        raise argparse.ArgumentTypeError("it takes seconds above 0 and below 100000, as 2.2")
-    return float(text)
-
-
 def job_name(output):
     """The archive's name without its ending and without what isn't a letter, a digit, `_`, `-` or `.`."""
     name = re.sub(r"\.sl1s?$|^-$", "", os.path.basename(output), flags=re.IGNORECASE)
     return re.sub(r"[^\w.-]", "_", name) or "part"
+
+
+def run():
+    ended(main)

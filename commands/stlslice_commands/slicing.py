@@ -4,74 +4,51 @@ The part stands in the middle of the screen, whole: one that doesn't fit is refu
 so the first row is that of the greatest y, and a pixel inside the part is white. One layer at a time is held in memory.
 """
 
-import itertools
-import math
-import re
-from fractions import Fraction
+from functools import partial
 
-from .faults import Progress, Refused, say, shown
-from .images import head_of, joined
-from .parts import as_text
-from .program import Program
-from .shells import groups
-from .stl import REACH, changed
+import stlslice
 
-# By how much the numbers of a part are multiplied before the program takes them for millimetres.
-TIMES = {"mm": 1, "inch": 1, "cm": 10, "m": 1000}
-LARGEST_PITCH = 100_000
-OF_ONE_VOXEL = ["--pitch", "1000", "--layer", "1000", "--grid=1,1,1,0,0,0"]
-OPEN = 4  # the program's status if a mesh is open
+from .faults import Progress, Refused, answers, as_json, in_mm, say, shown
+from .parts import OPEN, Part, size_of
 
 
 class Sliced:
     """A part on a screen: its size in micrometres, how many layers it has, and their images."""
 
-    def __init__(self, given, source, unit):
+    def __init__(self, given):
         self.given = given
-        self.program = Program(given, unit)
-        self.texts = groups(source, unit) if given.shells else [as_text(source)]
-        facets, low, high = self.program.box(self.texts)
-        if TIMES[unit] > 1:
-            self.change(facets, 0, [TIMES[unit]] * 3)
-            facets, low, high = self.program.box(self.texts)
-        self.size = [after - before for before, after in zip(low, high)]
-        self.ask_for_unit()
-        quarters = self.quarters()
-        self.pitch, self.times = common_pitch(given.pitch)
-        if quarters or self.times != [1, 1]:
-            self.refuse_far(low, high)
-            self.refuse_open()
-            self.change(facets, quarters, [*self.times, 1])
-            facets, low, high = self.program.box(self.texts)
-        self.layers = max(1, -(-self.size[2] // given.layer))
-        corner = [(low[k] + high[k] - given.canvas[k] * self.pitch) // 2 for k in (0, 1)]
-        self.words = ["--pitch", str(self.pitch), "--layer", str(given.layer),
-                      "--grid={},{},{},{},{},{}".format(*given.canvas, self.layers, *corner, low[2])]
-        self.areas = self.areas_by(given.rule)
+        self.meshes = self.placed(Part(given))
+        self.layers = len(self.meshes[0])
         self.lit = 0
-        self.refuse_dark()
+        self.areas = self.areas_of_lit()
 
-    def change(self, facets, quarters, times):
-        self.texts = [changed(text, count, quarters, times) for text, count in zip(self.texts, facets)]
-
-    def ask_for_unit(self):
-        largest = max(self.size)
-        if not 1000 <= largest <= 1_000_000:
-            say(f"the part is {in_mm(self.size)} mm: is {self.given.unit} the unit of its numbers? --unit takes mm, cm, m or inch")
-
-    def quarters(self):
-        """By how many quarters the part is turned: by one for a screen in portrait, and by one more if that was asked for. A
-        part that doesn't fit so is refused."""
+    def placed(self, part):
+        """The meshes of the part on the screen. It is turned by a quarter for a screen in portrait, and by one more if that was
+        asked for. A part that doesn't fit so is refused."""
         given = self.given
         usual = 1 if given.printer and given.printer.is_portrait else 0
-        more = 0 if given.turn is None else 1
-        if given.turn == "auto" and (self.fits(usual) or not self.fits(usual + 1)):
-            more = 0
-        if not self.fits(usual + more):
+        more = 1 if given.turn == "" else 0
+        how = {"canvas": given.canvas, "pitch": given.pitch, "layer": given.layer, "rule": given.rule}
+        try:
+            meshes = part.open(turn=usual + more, **how)
+        except stlslice.FitFault:
+            meshes = []
+        except Refused as fault:
+            if fault.status == OPEN:
+                self.ask_for_unit(size_of(part.box()))
+            raise
+        self.size = size_of(meshes[0].box if meshes else part.box())
+        self.ask_for_unit(self.size)
+        if meshes and not (given.height and self.size[2] > given.height):
+            return meshes
+        if given.turn != "auto" or not self.fits(usual + 1):
             self.refuse_large(usual, more)
-        if given.turn == "auto" and more:
-            say("the part is turned by a quarter: it fits only so")
-        return usual + more
+        say("the part is turned by a quarter: it fits only so")
+        return part.open(turn=usual + 1, **how)
+
+    def ask_for_unit(self, size):
+        if not 1000 <= max(size) <= 1_000_000:
+            say(f"the part is {in_mm(size)} mm: is {self.given.unit} the unit of its numbers? --unit takes mm, cm, m or inch")
 
     def room(self, quarters):
         """The sides of the screen, and the printer's height if one is known, along the sides of a part that is turned so."""
@@ -82,7 +59,6 @@ class Sliced:
         return all(length <= room for length, room in zip(self.size, self.room(quarters)))
 
     def refuse_large(self, usual, more):
-        self.refuse_open()
         screen = f"the {self.given.printer.model}" if self.given.printer else "the canvas"
         line = f"the part doesn't fit: it is {in_mm(self.size)} mm, {screen} {in_mm(self.room(usual))} mm"
         if self.fits(usual + 1 - more):
@@ -91,72 +67,40 @@ class Sliced:
             line += "; turned by a quarter it doesn't fit either"
         raise Refused(line)
 
-    def refuse_far(self, low, high):
-        """Refuses a part whose multiplied numbers the program wouldn't take."""
-        farthest, most = max(map(abs, low + high)), REACH // max(self.times)
-        if farthest > most:
-            raise Refused(f"the part lies {farthest / 1000:g} mm from the origin, and for this pitch at most {most / 1000:g} mm "
-                          "are taken")
+    def areas_by(self, *rules):
+        """How many pixels of each mesh's layers are lit by each rule."""
+        found = iter(answers(*(partial(mesh.areas, rule) for rule in rules for mesh in self.meshes)))
+        return [[next(found) for _ in self.meshes] for _ in rules]
 
-    def refuse_open(self):
-        """Refuses an open edge before the part's coordinates are changed, so that the line has the part's own, and before the
-        part is found too large."""
-        self.areas_of(OF_ONE_VOXEL, 1)
-
-    def areas_by(self, rule):
-        """How many pixels of each text's layers are lit by a rule."""
-        try:
-            return self.areas_of([*self.words, "--rule", rule], self.layers)
-        except Refused as fault:
-            if fault.status == OPEN and self.times != [1, 1]:
-                fault.line = "corners that nearly meet come apart when x and y are multiplied, which this pitch needs; admesh joins them"
-            raise
-
-    def areas_of(self, words, layers):
-        """How many pixels of each text's layers are lit. Of open edges the least of all texts is told, as if they were one."""
-        areas, opened = [], []
-        for text in self.texts:
-            try:
-                areas.append(self.program.areas(text, words, layers))
-            except Refused as fault:
-                if fault.status != OPEN:
-                    raise
-                opened.append(fault)
-        if opened:
-            raise min(opened, key=lambda it: [int(word) for word in re.findall(r"-?\d+", it.told)])
-        return areas
-
-    def refuse_dark(self):
-        """Refuses a part of which no pixel is lit."""
-        rule = self.given.rule
-        totals = totals_of(self.areas)
+    def areas_of_lit(self):
+        """How many pixels of each mesh's layers are lit. A part of which none is lit is refused."""
+        Progress.show("slicing", is_new=True)
+        rule, is_one = self.given.rule, len(self.meshes) == 1
+        others = {"positive": ["nonzero"], "nonzero": [] if is_one else ["positive"]}.get(rule, [])
+        areas, *others = self.areas_by(rule, *others)
+        totals, *other_totals = [list(map(sum, it)) for it in (areas, *others)]
         if not any(totals):
             refuse_unlit(self.given, self.size)
-        if rule == "positive":
-            self.look_at_shells(totals, totals_of(self.areas_by("nonzero")))
-        elif rule == "nonzero" and len(self.texts) > 1:
-            self.look_at_shells(totals_of(self.areas_by("positive")), totals)
-
-    def look_at_shells(self, positive, nonzero):
-        """Warns of a shell that is inside out: what `nonzero` lights and `positive` doesn't is enclosed more often inwards than
-        outwards. Images of several texts can't be joined then, since an overlap with another text may be dark."""
-        if positive == nonzero:
-            return
-        if len(self.texts) > 1:
-            raise Refused("a shell is inside out, or bounds a hollow: --shells joins such shells by --rule evenodd alone")
-        say(f"a shell is inside out somewhere: {self.millilitres(*positive):.3f} ml by --rule positive, "
-            f"{self.millilitres(*nonzero):.3f} ml by --rule nonzero; look at the layers")
+        # What `nonzero` lights and `positive` doesn't is enclosed more often inwards than outwards. Images of several meshes can't be
+        # joined then, since an overlap with another mesh may be dark.
+        if others and other_totals != [totals]:
+            if not is_one:
+                raise Refused("a shell is inside out, or bounds a hollow: --shells joins such shells by --rule evenodd alone")
+            say(f"a shell is inside out somewhere: {self.millilitres(*totals):.3f} ml by --rule positive, "
+                f"{self.millilitres(*other_totals[0]):.3f} ml by --rule nonzero; look at the layers")
+        return areas
 
     def pngs(self):
         """Each layer as a PNG and how many of its pixels are lit, the lowest first."""
         given = self.given
-        head = head_of(given.canvas, given.depth)
-        words = [*self.words, "--rule", given.rule, "--depth", str(given.depth)]
-        words += ["--mirror-x"] * given.mirror_x + ["--mirror-y"] * given.mirror_y
-        streams = [self.program.pngs(text, words, head, self.layers) for text in self.texts]
-        # zip_longest asks each stream for its end, and only then its status is looked at
-        for pngs, areas in Progress.through(zip(itertools.zip_longest(*streams), zip(*self.areas)), self.layers):
-            png, lit = joined(pngs, areas, given.rule)
+        words = given.depth, given.mirror_x, given.mirror_y, given.workers
+        if len(self.meshes) == 1:
+            layers = zip(self.meshes[0].pngs(*words), self.areas[0])
+        else:
+            from .images import joined
+            streams = zip(zip(*(mesh.pngs(*words) for mesh in self.meshes)), zip(*self.areas))
+            layers = (joined(pngs, areas, given.rule) for pngs, areas in streams)
+        for png, lit in Progress.through(layers, self.layers):
             self.lit += lit
             yield png, lit
 
@@ -172,34 +116,6 @@ class Sliced:
         return shown(f"{output}: {in_mm(self.size)} mm, {volume:.3f} ml, {self.layers} layers")
 
 
-def as_json(output, layers, size, volume, **more):
-    """The last line for programs: sizes in millimetres, the volume in millilitres."""
-    import json  # only here, since each start reads what it imports
-
-    sides = [round(length / 1000, 3) for length in size]
-    return json.dumps({"output": output, "layers": layers, "size": sides, "millilitres": round(volume, 6), **more})
-
-
 def refuse_unlit(given, size):
     raise Refused(f"no pixel is lit by --rule {given.rule}: is the part inside out (try --rule nonzero), or its unit another than "
                   f"{given.unit}? It is {in_mm(size)} mm")
-
-
-def totals_of(areas):
-    """How many pixels of each text are lit."""
-    return [sum(layers) for layers in areas]
-
-
-def common_pitch(sides):
-    """The least pitch in whole micrometres that both sides of a pixel become, multiplied by whole numbers; and these numbers."""
-    one, other = (side.numerator for side in sides)
-    size = one * other // math.gcd(one, other)
-    if size > LARGEST_PITCH:
-        told = " x ".join(f"{float(side):.10g}" for side in sides)
-        raise Refused(f"a pixel of {told} micrometres isn't taken: no whole number of them up to {LARGEST_PITCH:,} is a multiple of "
-                      "both sides")
-    return size, [int(Fraction(size) / side) for side in sides]
-
-
-def in_mm(lengths):
-    return " x ".join(f"{float(n) / 1000:.3f}" for n in lengths)

@@ -1,4 +1,4 @@
-"""The options that `stlslice-sl1` and `stlslice-pngs` take."""
+"""The options of the commands."""
 
 import argparse
 import contextlib
@@ -7,11 +7,45 @@ import re
 import sys
 from fractions import Fraction
 
-from .printers import listed, printers
-
-RULES = ["evenodd", "nonzero", "positive"]
-UNITS = ["mm", "cm", "m", "inch"]
 MOST_WORKERS = 64
+
+
+
+def taking(told, pattern, value):
+    """What reads an option's value: a text of this pattern, by a function that returns None for one that isn't taken."""
+    def read(text):
+        found = value(text) if re.fullmatch(pattern, text) else None
+        if found is None:
+            raise argparse.ArgumentTypeError(f"it takes {told}")
+        return found
+
+    return read
+
+
+def whole(most):
+    return taking(f"a whole number, 1 to {most}", r"0*[1-9]\d{0,5}", lambda text: int(text) if int(text) <= most else None)
+
+
+def sides(text):
+    """Width and depth of a pixel."""
+    found = [Fraction(it) for it in text.split("x")]
+    return (found[0], found[-1]) if all(found) else None
+
+
+workers, micrometres = whole(MOST_WORKERS), whole(100_000)
+nonempty, turn = taking("a name", r"(?s:.+)", str), taking("auto, or no value", "(?:auto)?", str)
+canvas = taking("COLUMNSxROWS, each 1 to 99999, as in 2560x1620", r"[1-9]\d{0,4}[x,][1-9]\d{0,4}",
+                lambda text: tuple(map(int, re.split("[x,]", text))))
+pitch = taking("micrometres above 0 and below 1000000, with at most three digits after the point, as 50, 47.25 or 19x24",
+               r"\d{1,6}(?:\.\d{1,3})?(?:x\d{1,6}(?:\.\d{1,3})?)?", sides)
+# as micrometres
+millimetres = taking("millimetres above 0 and below 1000000, as 150 or 149.5", r"\d{1,6}(?:\.\d{1,6})?",
+                     lambda text: 1000 * Fraction(text) or None)
+
+
+def processors():
+    """As many workers as there are processors to be used, and as are taken."""
+    return min(len(os.sched_getaffinity(0)), MOST_WORKERS)
 
 
 class Parser(argparse.ArgumentParser):
@@ -26,6 +60,7 @@ class Listing(argparse.Action):
     """`--printer help` lists the printers and ends; another word has to be a model of the list."""
 
     def __call__(self, parser, given, word, option=None):
+        from .printers import listed, printers  # only here, since each start reads what it imports anew
         if word == "help":
             print(listed(), end="")
             parser.exit()
@@ -36,38 +71,40 @@ class Listing(argparse.Action):
         given.printer = known[word.upper()]
 
 
-def parser(description, output):
-    """A parser of the options that `stlslice-sl1` and `stlslice-pngs` take; `output` is what the second word names."""
+def shared(description, output):
+    """A parser of the options that all commands take; `output` is what the second word names."""
     made = Parser(description=description, allow_abbrev=False)
     add = made.add_argument
     add("part", type=nonempty, help="an STL, ASCII or binary, an OBJ or a 3MF, or - for standard input; another format, zip and gzip are "
         "refused with the command that converts or unpacks them")
     add("output", type=nonempty, help=output)
+    add("--rule", default="positive", choices=["evenodd", "nonzero", "positive"],
+        help="which pixels are lit (%(default)s, which joins shells that overlap, as supports do)")
+    add("--unit", default="mm", choices=["mm", "cm", "m", "inch"], help="unit of the part's numbers (%(default)s)")
+    add("--workers", type=workers, default=processors(), metavar="N", help="threads of the slicer, 1 to 64 (%(default)s)")
+    add("--json", action="store_true", help="write the last line as JSON")
+    return made
+
+
+def parser(description, output):
+    """A parser of the options that `stlslice-sl1` and `stlslice-pngs` take."""
+    made = shared(description, output)
+    add = made.add_argument
     add("--printer", action=Listing, metavar="MODEL",
         help="a printer that is known by name: it brings canvas, pitch, mirrors and height; 'help' lists the printers")
     add("--canvas", type=canvas, metavar="COLUMNSxROWS", help="pixels of the screen, as its images have them")
     add("--pitch", type=pitch, metavar="N",
         help="a pixel in micrometres: 50, 47.25, or 19x24 for width and depth in the image, after any turn")
-    add("--layer", type=whole, default=50, metavar="N", help="height of a layer in micrometres (%(default)s)")
+    add("--layer", type=micrometres, default=50, metavar="N", help="height of a layer in micrometres (%(default)s)")
     add("--height", type=millimetres, metavar="MM", help="the printer's height in mm; a higher part is refused")
     add("--turn", type=turn, metavar="[auto]",
         help="turn the part by a quarter, counterclockwise from above; 'auto' does so only if it doesn't fit otherwise, and says so")
-    add("--rule", default="positive", choices=RULES,
-        help="which pixels are lit (%(default)s, which joins shells that overlap, as supports do)")
-    add("--unit", default="mm", choices=UNITS, help="unit of the part's numbers (%(default)s)")
     add("--shells", action="store_true",
         help="slice each shell by itself and join the images, for a part of more than 1,048,576 facets")
     add("--mirror-x", action="store_true", help="swap left and right in each image")
     add("--mirror-y", action="store_true", help="swap top and bottom in each image")
     add("--depth", type=int, default=8, choices=[1, 8], help="bits of a PNG's pixel (%(default)s)")
-    add("--workers", type=workers, default=processors(), metavar="N", help="threads of the slicer, 1 to 64 (%(default)s)")
-    add_json(made)
-    add("--program", metavar="PATH", help="the slicer (stlslice beside this command, else on PATH)")
     return made
-
-
-def add_json(made):
-    made.add_argument("--json", action="store_true", help="write the last line as JSON")
 
 
 def read(made):
@@ -90,53 +127,3 @@ def quarters(words):
     """The words with a value of each `--turn`, since argparse would take the part as one: with none it is empty."""
     bare = [word == "--turn" and words[at + 1:at + 2] != ["auto"] for at, word in enumerate(words)]
     return ["--turn=" if is_bare else word for word, is_bare in zip(words, bare)]
-
-
-def turn(text):
-    if text not in ("", "auto"):
-        raise argparse.ArgumentTypeError("it takes auto, or no value")
-    return text
-
-
-def nonempty(text):
-    if not text:
-        raise argparse.ArgumentTypeError("it takes a name")
-    return text
-
-
-def canvas(text):
-    found = re.fullmatch(r"([1-9]\d{0,4})[x,]([1-9]\d{0,4})", text)
-    if not found:
-        raise argparse.ArgumentTypeError("it takes COLUMNSxROWS, each 1 to 99999, as in 2560x1620")
-    return int(found[1]), int(found[2])
-
-
-def whole(text, most=999_999):
-    if not re.fullmatch(r"0*[1-9]\d{0,5}", text) or int(text) > most:
-        raise argparse.ArgumentTypeError(f"it takes a whole number, 1 to {most}")
-    return int(text)
-
-
-def workers(text):
-    return whole(text, MOST_WORKERS)
-
-
-def processors():
-    """As many workers as there are processors to be used, and as the program takes."""
-    return min(len(os.sched_getaffinity(0)), MOST_WORKERS)
-
-
-def millimetres(text):
-    """Micrometres, as a fraction."""
-    if not re.fullmatch(r"\d{1,6}(\.\d{1,6})?", text) or not Fraction(text):
-        raise argparse.ArgumentTypeError("it takes millimetres above 0 and below 1000000, as 150 or 149.5")
-    return 1000 * Fraction(text)
-
-
-def pitch(text):
-    """Width and depth of a pixel, as fractions of micrometres."""
-    sides = text.split("x")
-    if len(sides) > 2 or not all(re.fullmatch(r"\d{1,6}(\.\d{1,3})?", side) and Fraction(side) for side in sides):
-        raise argparse.ArgumentTypeError("it takes micrometres above 0 and below 1000000, with at most three digits after the point, "
-                                         "as 50, 47.25 or 19x24")
-    return Fraction(sides[0]), Fraction(sides[-1])
