@@ -15,11 +15,12 @@ PROGRAM := build/stlslice
 SOURCES := crates.txt $(shell find crates -path '*/out' -prune -o -type f \( -name '*.rt' -o -name '*.antt' \) -print)
 
 LIBRARY := build/library/libstlslice.so.$(VERSION)
-# empty if the library isn't built, or isn't to be installed
-LIBRARY_BUILT := $(wildcard $(LIBRARY))
 LIBRARY_OF_native := $(LIBRARY)
 LIBRARY_OF_aarch64-linux := build/aarch64-linux/libstlslice.so.$(VERSION)
 LIBRARY_OF_x86_64-windows := build/x86_64-windows/stlslice.dll
+# what `make dist` packs
+DIST_OF_native := $(PROGRAM) $(LIBRARY)
+DIST_OF_x86_64-windows := $(LIBRARY_OF_x86_64-windows) build/web/preview.html
 # the module of LLVM that the library is compiled from; those for other machines, and the page, are compiled from it too
 LLVM_MODULE := build/made/module.bc
 LIBRARY_SOURCES := include/stlslice.h library/build library/exports.map library/stlslice.pc
@@ -28,7 +29,7 @@ SHARE = $(PREFIX)/share
 LIB = $(PREFIX)/lib
 INCLUDE = $(PREFIX)/include
 COMMANDS = stlslice-sl1 stlslice-pngs stlslice-slabs stlslice-page
-MODULE = $(SHARE)/stlslice/stlslice_commands
+MODULES = $(SHARE)/stlslice
 MANUALS = $(SHARE)/man/man1
 BASH_COMPLETIONS = $(SHARE)/bash-completion/completions
 ZSH_COMPLETIONS = $(SHARE)/zsh/site-functions
@@ -39,9 +40,10 @@ MISSING = rt is missing: the Rattle toolchain, rattle-kit-13, which proves and b
 	of the kit on the PATH. A built stlslice itself needs only the C library (glibc 2.34 or later).
 NEEDS_RT = @command -v rt > /dev/null || { echo "$(MISSING)" >&2; exit 1; }
 
-.PHONY: all help demo check test library test-library web test-web wheel install install-library uninstall deb dist docs bench examples clean
+.PHONY: all help demo check test library test-library web test-web wheel install install-program install-library uninstall deb dist docs \
+	bench examples clean
 
-all: $(PROGRAM)  ## proves and builds the program, and leaves it at build/stlslice
+all: $(PROGRAM) $(LIBRARY)  ## proves and builds the program, build/stlslice, and the library for C and the commands, build/library
 
 # `rt run` proves the libraries and the program, builds it and runs it once, on the stored input.
 $(PROGRAM): $(SOURCES)
@@ -86,18 +88,24 @@ test-library: $(LIBRARY) $(PROGRAM)  ## compares the library's layers, in C, C++
 
 web: build/web/preview.html  ## a page that slices in a browser: the library as WebAssembly, in build/web/preview.html
 
-build/web/preview.html: $(LIBRARY) $(LIBRARY_SOURCES) library/rattle_heap.ll docs/refused.md $(wildcard library/web/*.* examples/*.stl)
+build/web/preview.html: $(LIBRARY) $(LIBRARY_SOURCES) library/rattle_heap.ll docs/refused.md $(wildcard library/web/*.* commands/stlslice_commands/printers.* examples/*.stl)
 	CC="$(CC)" library/build page $(LLVM_MODULE) build/web $(VERSION) $(PREFIX)
 
 # Without Chromium the test ends with status 77 and one line: it was skipped.
 test-web: build/web/preview.html $(PROGRAM)  ## tries that page in a headless Chromium, beside the program and the library
 	CC="$(CC)" library/web/test build/web/preview.html $(PROGRAM) build/library build/web/pictures || test $$? -eq 77
 
-install: $(PROGRAM) $(if $(LIBRARY_BUILT),install-library)  ## copies the program and its files below PREFIX, and the library if it is built
+install: install-program install-library  ## copies the program, its commands and files, and the library, below PREFIX
+
+# the commands find the library beside the Python module, whatever PREFIX is
+install-program: $(PROGRAM)
 	install -D -m 755 $(PROGRAM) $(DESTDIR)$(PREFIX)/bin/stlslice
 	install -m 755 $(addprefix commands/,$(COMMANDS)) $(DESTDIR)$(PREFIX)/bin
-	install -d $(DESTDIR)$(MODULE) $(DESTDIR)$(MANUALS) $(DESTDIR)$(DOCS)/examples $(DESTDIR)$(DOCS)/docs/decisions
-	install -m 644 commands/stlslice_commands/*.* $(DESTDIR)$(MODULE)
+	install -d $(addprefix $(DESTDIR)$(MODULES)/,stlslice stlslice_commands) $(DESTDIR)$(MANUALS) $(DESTDIR)$(DOCS)/examples \
+		$(DESTDIR)$(DOCS)/docs/decisions
+	install -m 644 commands/stlslice_commands/*.* $(DESTDIR)$(MODULES)/stlslice_commands
+	install -m 644 python/stlslice/*.* $(DESTDIR)$(MODULES)/stlslice
+	ln -sfr $(DESTDIR)$(LIB)/libstlslice.so.1 $(DESTDIR)$(MODULES)/stlslice
 	for name in stlslice $(COMMANDS); do \
 		gzip -9nc man/$$name.1 > $(DESTDIR)$(MANUALS)/$$name.1.gz; \
 		chmod 644 $(DESTDIR)$(MANUALS)/$$name.1.gz; \
@@ -135,11 +143,11 @@ uninstall:  ## removes what make install copied
 	rm -f $(DESTDIR)$(INCLUDE)/stlslice.h $(DESTDIR)$(LIB)/libstlslice.a $(DESTDIR)$(LIB)/pkgconfig/stlslice.pc
 	rm -f $(DESTDIR)$(LIB)/libstlslice.so $(DESTDIR)$(LIB)/libstlslice.so.1 $(DESTDIR)$(LIB)/libstlslice.so.$(VERSION)
 
-deb: $(PROGRAM) $(LIBRARY_BUILT)  ## Debian packages of the program, and of the library if it is built, in build/
-	tools/deb $(PROGRAM) $(VERSION) build $(LIBRARY_BUILT)
+deb: $(PROGRAM) $(LIBRARY)  ## Debian packages of the program with its commands, and of the library, in build/
+	tools/deb $(PROGRAM) $(VERSION) build $(LIBRARY)
 
-dist: $(PROGRAM) $(LIBRARY_BUILT)  ## tarballs of the program, and of the library if it is built, with SHA-256, in build/
-	tools/dist $(PROGRAM) $(VERSION) build $(LIBRARY_BUILT)
+dist: $(DIST_OF_$(TARGET))  ## a tarball of the program, its commands and the library, in build/; TARGET=x86_64-windows: a zip
+	tools/dist $(or $(word 1,$^),$(error there is no tarball for $(TARGET))) $(VERSION) build $(word 2,$^)
 
 docs:  ## the reference of all crates, as HTML in build/docs: contracts, definitions, what has to be believed
 	python3 tools/reference.py build/docs

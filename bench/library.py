@@ -73,10 +73,9 @@ def openings(stlslice, text):
     found = array.array("I", (known.setdefault(row, len(known)) for row in re.findall(rb"vertex (.*)\n", text)))
     corners = stlslice._points(stlslice.micrometres([[float(it) for it in row.split()] for row in known]))
     indices = stlslice._triangles(found)
-    call = stlslice._lib.stlslice_open_mesh
+    options = stlslice._options(SIZES["pitch"], SIZES["layer"], "evenodd", None, "mm", None, 0)
     yield "a text", lambda: stlslice.open(text, **SIZES)
-    yield "arrays", lambda: stlslice.Mesh(lambda *places: call(*corners[1:], *indices[1:], *places), SIZES["pitch"], SIZES["layer"],
-                                          "evenodd", None, "mm")
+    yield "arrays", lambda: stlslice.Mesh("open_mesh", (*corners[1:], *indices[1:]), options)
 
 
 def memory(opens):
@@ -132,7 +131,6 @@ def main():
             "the same as an array": lambda: layer(stlslice.Mesh.__getitem__, 1),
             "the same layer again": lambda: layer(stlslice.Mesh.image, 2),
             "open, all layers one by one": lambda: took(lambda: opened(lambda mesh: map(mesh.image, range(len(mesh))))),
-            "open, all layers by stripes": lambda: took(lambda: opened(lambda mesh: map(mesh._stripe, range((len(mesh) + 7) // 8)))),
             "open, all layers as arrays": lambda: took(lambda: opened(iter)),
             "the same arrays of the program's stream, through a pipe":
                 lambda: took(lambda: through_pipe(program, path, shape, numpy)),

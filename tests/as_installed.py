@@ -1,16 +1,15 @@
-"""The commands as `make install` puts them, their modules, and a stand-in for the slicer."""
+"""The commands as `make install` puts them, their modules, and stand-ins for the slicer."""
 
 import os
 import sys
 
 from common import BRACKET, bytes_of, installed, name_of, same
-from parts import box, png_of_p4, text
+from parts import box, text
 
 SL1, PNGS, PAGE, SLABS = (installed(f"stlslice-{it}") for it in ("sl1", "pngs", "page", "slabs"))
 SHARE = os.path.join(os.path.dirname(installed()), "share", "stlslice")
-# a canvas for the stand-in, whose layers have eight pixels
-TINY = ["--canvas", "8x1", "--pitch", "100", "--layer", "500"]
-IMAGE = png_of_p4((8, 1, b"\377"), 8)
+# a part of two layers on a canvas of eight pixels, all lit
+TINY, TINY_PART = ["--canvas", "8x1", "--pitch", "100", "--layer", "500"], text(box((0, 0, 0), ("0.8", "0.1", 1)))
 # a cube without a facet, and the program's line of it
 OPEN, OPEN_LINE = text(box((0, 0, 0), (1, 1, 1))[1:]), "stlslice: open edge 0 0 0 to 0 1000 0 there 0 back 1"
 
@@ -36,18 +35,8 @@ def keeps_the_part(room, command):
     return part, link
 
 
-def printed(data):
-    """A line of shell that prints these bytes."""
-    return "printf '" + "".join(f"\\{byte:03o}" for byte in data) + "'\n"
-
-
-def image_for(command):
-    """The image of eight pixels, of as many bits as the command asks for, as a line of shell."""
-    return printed(png_of_p4((8, 1, b"\377"), 1) if command == PAGE else IMAGE)
-
-
 def slicer(room, body, layers=2, start="", box="800 100 1000"):
-    """A stand-in for the slicer: it answers box and report, and slices as `body` says; before all it does `start`."""
+    """A stand-in for the program: it answers box and report, and slices as `body` says; before all it does `start`."""
     report = "".join(f"layer {k} loops 1 area 8\n" for k in range(layers)) + f"total {8 * layers}\n"
     return room.put("slicer", f"#!/bin/sh\n{start}\ncase \"$*\" in *--box*) echo facets 12 box 0 0 0 {box}; exit;; "
                     f"*--report*) printf '{report}'; exit;; esac\n{body}\n", 0o755)

@@ -5,6 +5,7 @@ A test file is tests/test_*.py: its classes are of `Case`, and each method test_
 
 import atexit
 import functools
+import hashlib
 import os
 import re
 import shutil
@@ -264,7 +265,8 @@ def installed(name=""):
         return os.path.join(installed(), name)
     room = Room()
     atexit.register(room.remove)
-    room.make("-s", "install", f"DESTDIR={room.path}", "PREFIX=/usr", "LIBRARY_BUILT=")
+    library()
+    room.make("-s", "install", f"DESTDIR={room.path}", "PREFIX=/usr")
     return room.file("usr", "bin")
 
 
@@ -281,7 +283,7 @@ def alone(name, room):
 
 
 def commands_work(folder, room):
-    """The program and the commands of a folder slice a part, and each finds the program beside itself: no other is on PATH."""
+    """The program and the commands of a folder slice a part, and each finds program and library: no other is on PATH."""
     part, env = ["--layer", "1000", BRACKET], room.with_env(PATH="/usr/local/bin:/usr/bin:/bin")
     for name, told, *words in (("", "facets ", "--box"), ("-page", "27 layers", *part, "page.html"),
                                ("-sl1", "27 layers", "--canvas", "800x400", "--pitch", "50", *part, "part.sl1"),
@@ -289,6 +291,17 @@ def commands_work(folder, room):
                                ("-slabs", "--grid=", "--words", BRACKET)):
         found = room.out(os.path.join(folder, f"stlslice{name}"), *words, path=BRACKET, cwd=room.path, env=env)
         assert told in found, f"stlslice{name}: {found}"
+
+
+def released(room, name, umask, main, *beside, told=""):
+    """What tools/dist makes of what was built, in a copy of the repository's files whose times differ."""
+    copy = room.file(name)
+    shutil.copytree(ROOT, copy, ignore=shutil.ignore_patterns(".git", "crates", "build", "__pycache__"))
+    room.out("find", copy, "-exec", "touch", "-d", f"@{umask}000", "{}", "+")
+    ran = room.bash(f'umask {umask:03}; exec tools/dist "$@"', main, version(), f"{copy}/out", *beside, cwd=copy)
+    made, = os.listdir(f"{copy}/out")
+    same(ran, (0, f"{hashlib.sha256(bytes_of(copy, 'out', made)).hexdigest()}  {made}\n", told), f"what tools/dist says in {name}")
+    return os.path.join(copy, "out", made)
 
 
 def has_ended(pid):
@@ -299,11 +312,11 @@ def has_ended(pid):
         return True
 
 
-def waited(is_so, seconds=60):
-    for _ in range(20 * seconds):
+def waited(is_so, seconds=60, wait=0.05):
+    for _ in range(int(seconds / wait)):
         if is_so():
             return
-        time.sleep(0.05)
+        time.sleep(wait)
     raise AssertionError(f"it was not so within {seconds} seconds")
 
 

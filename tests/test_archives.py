@@ -11,9 +11,9 @@ import sys
 import time
 import zipfile
 
-from as_installed import IMAGE, OPEN, OPEN_LINE, PAGE, PNGS, SL1, TINY, image_for, keeps_the_part, printed, slicer, wrong_words
-from common import BRACKET, GEAR, Case, alone, bytes_of, example, has_ended, name_of, same, text_of, waited
-from parts import archived, box, centred, layers_of, lit, middle, pixels_of_png, png_of_p4, text, turned_over, zipped
+from as_installed import OPEN, OPEN_LINE, PAGE, PNGS, SL1, TINY, TINY_PART, keeps_the_part, wrong_words
+from common import BRACKET, GEAR, Case, alone, bytes_of, example, name_of, same, text_of, waited
+from parts import archived, box, centred, layers_of, lit, middle, pixels_of_png, text, turned_over, zipped
 
 SMALL = ["--canvas", "331x203", "--pitch", "200", "--layer", "500", "--workers", "2"]
 CUBE = box((0, 0, 0), (1, 1, 1))
@@ -84,7 +84,7 @@ class Archives(Case):
     def test_dates_are_those_of_a_zip(self):
         """A date that a zip can't hold becomes the nearest that it can, and what is no date is refused at once."""
         out = self.room.file("out.sl1")
-        words = [SL1, *TINY, "--program", slicer(self.room, 2 * printed(IMAGE)), BRACKET, out]
+        words = [SL1, *TINY, self.room.put("part.stl", TINY_PART), out]
         for date, wanted, said in (("0", (1980, 1, 1, 0, 0, 0), "1970-01-01 at 00:00:00 UTC"),
                                    ("1700000000", (2023, 11, 14, 22, 13, 20), "2023-11-14 at 22:13:20 UTC"),
                                    ("9999999999", (2107, 12, 31, 23, 59, 58), "2286-11-20 at 17:46:39 UTC")):
@@ -165,8 +165,7 @@ class Archives(Case):
         os.symlink("elsewhere", link)
         for out in (pipe, link, self.room.path):
             self.refused(1, f"%s: {out} is no plain file", BRACKET, out)
-        # before anything is sliced
-        never = slicer(self.room, "", start="exit 9")
+        # before the part is looked at
         os.mkdir(self.room.file("empty"))
         os.symlink("empty", self.room.file("link to it"))
         for command, name, line in (
@@ -174,7 +173,7 @@ class Archives(Case):
                 (PNGS, "link", "{} is there already"),
                 (PNGS, "link to it", "{} is a link or a mount point, in whose place no folder can be moved")):
             out = self.room.file(name)
-            self.refused(1, f"%s: {line.format(out)}", "--program", never, BRACKET, out, command=command)
+            self.refused(1, f"%s: {line.format(out)}", "none.stl", out, command=command)
 
     def test_the_part_is_not_overwritten(self):
         part, link = keeps_the_part(self.room, [SL1, *SMALL])
@@ -229,7 +228,7 @@ class Archives(Case):
         same((sum(255 in row for row in first), max(row.count(255) for row in first)), (127, 254), "a box of 2 x 1 inches")
 
 
-WHOLE = "it takes a whole number, 1 to 999999"
+WHOLE = "it takes a whole number, 1 to 100000"
 SECONDS = "it takes seconds above 0 and below 100000, as 2.2"
 WRONG = {
     "--canvas=2560": "it takes COLUMNSxROWS, each 1 to 99999, as in 2560x1620", "--layer=0.05": WHOLE,
@@ -258,14 +257,13 @@ class Words(Case):
                 line = f"argument {which}: it takes a name"
                 wrong_words(self.room, line, command, "--canvas", "99x99", "--pitch", "50", *words)
 
-    def test_a_missing_program_is_told(self):
-        room = self.room
+    def test_a_missing_library_is_told(self):
+        room, line = self.room, "none.so: cannot open shared object file: No such file or directory"
         for name in map(name_of, (SL1, PNGS, PAGE)):
-            for words, line in (([], "stlslice is neither beside this command nor on PATH; --program says where it is"),
-                                (["--program", room.path], f"no program at {room.path}"),
-                                (["--program", "none"], "no program at none")):
-                command = [sys.executable, alone(name, room), *SMALL, *words, BRACKET, room.file("out")]
-                room.refused(1, f"{name}: {line}", *command, env={"PATH": room.path})
+            words = [sys.executable, alone(name, room), *SMALL, BRACKET, room.file("out")]
+            ran = room.run(*words, env=room.with_env(STLSLICE_LIBRARY="none.so"))
+            same((ran.status, ran.out), (1, ""), f"{name} without a library")
+            same(ran.fault, f"{name}: {line}: install the library, or name it in STLSLICE_LIBRARY\n", name)
 
     def test_another_exposure_is_asked_for(self):
         """A printer's exposure is that of a resin whose layers have one height; the command goes on."""
@@ -308,55 +306,26 @@ FULL, TO_FULL = "%s: No space left on device: standard output", 'exec env -u PYT
 class Faults(Case):
     def setUp(self):
         super().setUp()
-        self.tiny, self.out = [*TINY, "--program", self.room.file("slicer")], self.room.file("out")
-
-    def test_broken_slicers_leave_nothing(self):
-        image, short = printed(IMAGE), printed(IMAGE[:-1])
-        ended = "stlslice-sl1: the program's output ended within its layers"
-        other = "stlslice-sl1: the program's output isn't a stream of PNGs of that canvas"
-        more = "stlslice-sl1: the program wrote more layers than it was asked for"
-        for body, status, line in (
-                (image + "echo stlslice: write failed after 8 bytes >&2; exit 7\n", 7,
-                 "stlslice: write failed after 8 bytes"),
-                (image, 1, ended), (image + short, 1, ended), (image + printed(IMAGE[:35]), 1, ended),
-                (image + printed(IMAGE[:9]), 1, ended),
-                # a chunk as long as four bytes can say
-                (image + printed(IMAGE[:33] + b"\377" * 4 + IMAGE[37:]), 1, ended),
-                (image + image + "printf x\n", 1, more), (image + image + image, 1, more),
-                (image + printed(png_of_p4((1, 8, b"\x80" * 8), 8)), 1, other),
-                (image + printed(png_of_p4((8, 1, b"\377"), 1)), 1, other),
-                (image + "printf 'P4\\n8 1\\n\\377 and as many bytes as a head has'\n", 1, other),
-                (image + "kill -KILL $$\n", 137,
-                 "stlslice-sl1: the program was ended by signal 9: is there too little memory?"),
-                (image + "kill -SEGV $$\n", 139, "stlslice-sl1: the program was ended by signal 11")):
-            slicer(self.room, body)
-            self.room.refused(status, line, SL1, *self.tiny, BRACKET, self.out)
-        slicer(self.room, image + image, 1)
-        line = "%s: the program's report has 1 layers, and 2 were asked for"
-        self.room.refused(1, line, SL1, *self.tiny, BRACKET, self.out)
+        self.part, self.out = self.room.put("part.stl", TINY_PART), self.room.file("out")
+        self.tiny = [*TINY, self.part]
 
     def test_a_full_disk_is_told(self):
         """A limit of no bytes for each file stands for it. A full standard output is told once, and is no success."""
-        slicer(self.room, 2 * image_for(PAGE))
         full, refused = f"%s: File too large: {self.room.path}", self.room.refused
-        for command, more in ((SL1, ["--depth", "1"]), (PNGS, ["--depth", "1"]), (PAGE, [])):
-            words = [command, *self.tiny, *more]
-            refused(1, f"{full}/out", *words, BRACKET, self.out, script='ulimit -f 0; exec "$@"')
-            # copies of the part: of standard input, of its shells, in another unit
-            for copied in (["-"], *([[it, BRACKET] for it in ("--shells", "--unit=cm")] if more else [])):
-                refused(1, full, *words, *copied, self.out, path=BRACKET, script='ulimit -f 1; exec "$@"')
+        for command in (SL1, PNGS, PAGE):
+            words = [command, *self.tiny]
+            refused(1, f"{full}/out", *words, self.out, script='ulimit -f 0; exec "$@"')
             refused(1, FULL, command, "--help", script=TO_FULL)
             ran = self.room.bash('exec "$@" >&-', command, "--help")
             same((ran.status, "Traceback" in ran.fault), (0, False), f"{name_of(command)} --help without a standard output")
+        refused(1, full, SL1, *SMALL, BRACKET, "-", script='ulimit -f 1; exec "$@"')
 
     def test_a_command_that_is_stopped_leaves_nothing(self):
         """By each signal, and by further ones that come at once. A signal that nohup ignores is none."""
-        signals, begun = (signal.SIGHUP, signal.SIGINT, signal.SIGTERM), self.room.file("begun")
+        signals, out = (signal.SIGHUP, signal.SIGINT, signal.SIGTERM), self.room.file("out")
+        self.room.put("part.stl", text(box((0, 0, 0), ("0.8", "0.1", 60))))
+        words = ["--canvas", "8x1", "--pitch", "100", "--layer", "1", "part.stl", "out"]
         for command in (SL1, PNGS, PAGE):
-            image = image_for(command).strip()
-            body = f"for k in $(seq 500); do {image}; done\necho $$ > pid\nmv pid begun\nexec sleep 60\n"
-            path = slicer(self.room, body, 500)
-            words = ["--canvas", "8x1", "--pitch", "100", "--layer", "2", "--program", path, BRACKET, "out"]
             for number in signals:
                 def listen():
                     for other in signals:
@@ -364,77 +333,70 @@ class Faults(Case):
 
                 child = subprocess.Popen([command, *words], cwd=self.room.path, env=self.room.environment,
                                          stderr=subprocess.PIPE, preexec_fn=listen)
-                waited(lambda: os.path.exists(begun))
-                assert any(name.endswith(".part") for name in self.room.files()), "no file was begun"
+                waited(lambda: any(name.endswith(".part") for name in self.room.files()), wait=0.001)
                 child.send_signal(signal.SIGHUP if number != signal.SIGHUP else number)
                 while child.poll() is None:
                     child.send_signal(number)
                     time.sleep(0.0005)
                 same((child.returncode, child.stderr.read()), (128 + number, b""), f"{name_of(command)}, signal {number}")
                 child.stderr.close()
-                pid = int(text_of(begun))
-                waited(lambda: has_ended(pid))
-                os.remove(begun)
-                same(self.room.files(), ["slicer"], "files")
+                same(self.room.files(), ["part.stl"], "files")
 
     def test_a_signal_within_a_library_is_no_fault(self):
         """A signal that comes while `zipfile` ends an entry."""
         self.room.put("sitecustomize.py", "import os, signal, zipfile\n"
                       "zipfile._ZipWriteFile.close = lambda _: os.kill(os.getpid(), signal.SIGTERM)\n")
-        slicer(self.room, image_for(SL1))
         env = self.room.with_env(PYTHONPATH=self.room.path)
-        self.room.refused(143, "", SL1, *self.tiny, BRACKET, "out", cwd=self.room.path, env=env)
+        self.room.refused(143, "", SL1, *self.tiny, "out", cwd=self.room.path, env=env)
 
     def test_an_early_signal_is_no_fault(self):
         """A signal that comes while the modules are read."""
-        self.room.put("subprocess.py", "import os, signal\nos.kill(os.getpid(), signal.SIGINT)\n")
+        self.room.put("fractions.py", "import os, signal\nos.kill(os.getpid(), signal.SIGINT)\n")
         for command in (SL1, PNGS, PAGE):
             words = ["env", "--default-signal=INT", command, "part", "out"]
             self.room.refused(130, "", *words, env=self.room.with_env(PYTHONPATH=self.room.path))
 
     def test_ctrl_c_at_once_prints_no_traceback(self):
         """In each millisecond of the first fifty, and some later ones."""
-        slicer(self.room, "", start="exec sleep 60")
+        self.room.put("part.stl", text(box((0, 0, 0), ("0.8", "0.1", 60))))
         for command in (SL1, PNGS, PAGE):
             for wait in (*range(50), 75, 100, 200):
-                words = ["env", "--default-signal=INT", command, *TINY, "--program", "./slicer", BRACKET, "out"]
+                words = ["env", "--default-signal=INT", command, *TINY[:-1], "1", "part.stl", "out"]
                 child = subprocess.Popen(words, cwd=self.room.path, env=self.room.environment, stderr=subprocess.PIPE)
                 time.sleep(wait / 1000)
                 child.send_signal(signal.SIGINT)
                 said = child.communicate(timeout=60)[1]
                 assert said == b"" and child.returncode in (130, -signal.SIGINT), f"{name_of(command)}, {wait} ms: {said}"
-            same(self.room.files(), ["slicer"], "files")
+            same(self.room.files(), ["part.stl"], "files")
 
     def test_standard_error_may_be_closed_or_full(self):
         """The status is the same then. A closed standard input has no part."""
-        room = self.room
-        part, out = room.put("part.stl", b"solid".ljust(80) + bytes(4)), room.file("out")
+        room, part, out = self.room, self.part, self.room.file("out")
         for command in (SL1, PNGS, PAGE):
-            name, path = name_of(command), slicer(room, 2 * image_for(command))
-            words = [command, *TINY, "--program"]
+            name = name_of(command)
+            words = [command, *TINY]
             for place in ("2>&-", "2> /dev/full"):
-                # a binary part, of which a line is said
-                for given, status in (([path, part, out], 0), ([path, "none", out], 1), ([part, part, out], 1), ([path], 2)):
+                for given, status in (([part, out], 0), (["none", out], 1), ([part, part], 1), ([], 2)):
                     ran = room.bash(f'exec "$@" {place}', *words, *given, cwd=room.path)
                     same((ran.status, ran.fault), (status, ""), f"{name} {given} {place}")
                 shutil.rmtree(out) if command == PNGS else os.remove(out)
-            room.refused(1, "%s: standard input is closed", *words, path, "-", out, script='exec "$@" <&-')
-            slicer(room, "", start="echo stlslice: out of memory >&2; exit 6")
+            room.refused(1, "%s: standard input is closed", *words, "-", out, script='exec "$@" <&-')
             for place in ("2>&-", "2> /dev/full"):
-                room.refused(6, "", *words, path, part, out, script=f'exec "$@" {place}')
+                bad = room.put("bad.stl", OPEN)
+                room.refused(4, "", *words, bad, out, script=f'exec "$@" {place}')
 
     def test_little_memory_is_told(self):
-        slicer(self.room, printed(IMAGE[:33] + b"\377" * 4 + IMAGE[37:]))
-        for command in (SL1, PNGS):
-            words = [command, *self.tiny, BRACKET, self.out]
+        """A part that is larger than the memory, of zeros on no disk."""
+        os.truncate(self.room.put("large.stl", "solid"), 1 << 32)
+        for command in (SL1, PNGS, PAGE):
+            words = [command, *TINY, self.room.file("large.stl"), self.out]
             self.room.refused(6, "%s: out of memory", *words, script='ulimit -v 2000000; exec "$@"')
 
     def test_standard_output_may_be_full(self):
         """The last line is written before the result has its name."""
         for command, out in ((SL1, "out"), (PAGE, "out"), (PNGS, "pngs")):
-            slicer(self.room, 2 * image_for(command))
             self.room.put("out", "before")
-            self.room.refused(1, FULL, command, *self.tiny, BRACKET, out, script=TO_FULL, cwd=self.room.path)
+            self.room.refused(1, FULL, command, *self.tiny, out, script=TO_FULL, cwd=self.room.path)
             same(self.room.get("out"), b"before", "the file that was there")
 
     def test_a_dash_is_standard_output(self):
@@ -452,7 +414,7 @@ class Faults(Case):
             self.room.refused(1, "%s: No such file or directory: none", *words[:-1], "none", "-", **here)
         line = "%s: a folder can't be standard output; stlslice --png writes all layers there, and ./- is a folder's name"
         self.room.refused(1, line, PNGS, *SMALL, BRACKET, "-", **here)
-        same(self.room.files(), [], "files")
+        same(self.room.files(), ["part.stl"], "files")
         self.room.put("-.sl1", self.room.run(SL1, *SMALL, BRACKET, "-", text=False).out)
         same(opened(self.room.file("-.sl1"))[0]["jobDir"], "part", "an archive names no job after a dash")
 
@@ -462,11 +424,10 @@ class Faults(Case):
         here, env = os.fsencode(self.room.path), self.room.with_env(PYTHONIOENCODING="utf-8:strict")
         out, part, none = (os.path.join(here, it + name) for it in (b"", b"part", b"no"))
         for command, more in ((SL1, [b"--material", b"grey\xff\x01"]), (PNGS, []), (PAGE, [])):
-            slicer(self.room, 2 * image_for(command))
             line = f"%s: No such file or directory: {self.room.path}/no{shown}"
-            self.room.refused(1, line, command, *self.tiny, *more, none, out, env=env)
-            shutil.copy(BRACKET, part)
-            told = self.room.out(command, *self.tiny, *more, part, out, env=env)
+            self.room.refused(1, line, command, *TINY, *more, none, out, env=env)
+            shutil.copy(self.part, part)
+            told = self.room.out(command, *TINY, *more, part, out, env=env)
             assert told.startswith(f"{self.room.path}/{shown}: ") and told.count("\n") == 1, told
             if command == SL1:
                 settings = zipped(os.fsdecode(out))["config.ini"].decode()

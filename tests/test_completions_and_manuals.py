@@ -28,7 +28,7 @@ FISH = {
     "stlslice --rule=po": {"--rule=positive"}, "stlslice --unit ": {"mm", "inch"}, "stlslice --workers 3": {"32"},
     "stlslice --pitch ": set(), "stlslice-sl1 --printer ": {"SL1", "SL1S", "help"},
     "stlslice-pngs --rule=po": {"--rule=positive"}, "stlslice-pngs --fade": set(), "stlslice-sl1 --fad": {"--fade"},
-    "stlslice-page --rule=po": {"--rule=positive"}, "stlslice-page --unit ": {"mm", "inch"},
+    "stlslice-page --rule=po": {"--rule=positive"}, "stlslice-page --unit ": {"mm", "cm", "m", "inch"},
     "stlslice-slabs -r ": {"evenodd", "nonzero", "positive"}}
 
 

@@ -28,6 +28,7 @@ TOLD = [
     ("docs/PROVED.md", "The claims are modelled", "That all draws", [("draw", CLAIMS)]),
     ("docs/PROVED.md", "`Session::open` of", "The same holds",
      [("open", SESSION), ("open_mesh", SESSION), ("finish", "crates/layer_session/src/session_reader.rt")]),
+    ("docs/PROVED.md", "Laws of `part_on_screen`", "\n", [("hold_screen_laws", "crates/part_on_screen/src/laws.rt")]),
     ("docs/PROVED.md", "In that of `png`", "A call succeeds", [("png", SESSION)]),
     ("docs/PROVED.md", "A call succeeds only", "The calls of",
      [(it, SESSION) for it in ("image", "stripe", "area", "loops", "outlines", "png")]),

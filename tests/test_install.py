@@ -1,6 +1,6 @@
-"""make install puts each file into its place below DESTDIR and PREFIX, and make uninstall removes them and no other. With a
-built library: header, libraries and stlslice.pc, of which alone the preview of docs/embedding.md is made, shared and static.
-It shows what the program slices, and a refused part's line."""
+"""make install puts each file into its place below DESTDIR and PREFIX, and make uninstall removes them and no other. Of header,
+libraries and stlslice.pc alone the preview of docs/embedding.md is made, shared and static. It shows what the program slices,
+and a refused part's line."""
 
 import gzip
 import os
@@ -36,6 +36,7 @@ class Install(Together):
     @classmethod
     def make_ready(cls, room):
         cls.words = [f"DESTDIR={room.file('root')}", "PREFIX=/opt/here"]
+        library()
         cls.below = room.file("root/opt/here")
         os.makedirs(room.file("root/opt/here/bin"))
         room.put("root/opt/here/bin/other", "")
@@ -48,8 +49,12 @@ class Install(Together):
         for place, source in PLACES.items():
             same(bytes_of(self.below, place), bytes_of(source), f"bytes of {place}")
             same(mode_of(self.in_place(place)), 0o755 if place.startswith("bin/") else 0o644, f"mode of {place}")
-        module = [it for it in os.listdir(os.path.join(ROOT, "commands/stlslice_commands")) if "." in it]
-        same(sorted(os.listdir(self.in_place("share/stlslice/stlslice_commands"))), sorted(module), "files of the module")
+        for folder, more in (("commands/stlslice_commands", []), ("python/stlslice", ["libstlslice.so.1"])):
+            files = [it for it in os.listdir(os.path.join(ROOT, folder)) if "." in it] + more
+            place = self.in_place("share/stlslice", os.path.basename(folder))
+            same(sorted(os.listdir(place)), sorted(files), f"files of {folder}")
+            same([mode_of(os.path.join(place, it)) for it in files if it not in more], [0o644] * (len(files) - len(more)), "modes")
+        assert os.path.samefile(self.in_place("share/stlslice/stlslice/libstlslice.so.1"), self.in_place("lib/libstlslice.so.1"))
         for folder in ("docs", "examples"):
             wanted = [it for it in files_below(os.path.join(ROOT, folder)) if "." in it and "__pycache__" not in it]
             same(files_below(self.in_place("share/doc/stlslice", folder)), wanted, f"files of {folder}")
@@ -77,11 +82,10 @@ class Install(Together):
             shown = self.room.run("man", "-M", self.in_place("share/man"), name)
             assert shown.status == 0 and "EXIT STATUS" in shown.out.replace("\x08", ""), f"{name}: {shown}"
 
-    def test_the_commands_find_the_program_beside_themselves(self):
+    def test_the_commands_find_program_and_library(self):
         commands_work(self.in_place("bin"), self.room)
 
     def test_uninstall_removes_them_and_no_other(self):
-        """So it does with those of the library, if that is built."""
         other = [f"DESTDIR={self.room.file('other')}", "PREFIX=/opt/here"]
         self.room.make("install", *other)
         self.room.put("other/opt/here/bin/other", "")

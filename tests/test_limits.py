@@ -15,8 +15,7 @@ SPELLED = {
         ("docs/formats.md", "has to lie in -{} to {}."), ("man/stlslice.1", r"\-{} to {}.", "within {m} m of the origin"),
         ("include/stlslice.h", "each at most {} from 0"), ("docs/PROVED.md", "at most {m} metres up"),
         ("python/stlslice/__init__.py", "points at most {m} metres from 0"),
-        ("commands/stlslice_commands/stl.py", "REACH = {}"),
-        ("commands/stlslice_commands/shells.py", "within {m} m of the origin"),
+        ("commands/stlslice_commands/meshes.py", "reaches beyond {m} m from the origin"),
         ("crates/test_meshes/src/published.rt", "FARTHEST: i32 = {};")],
     "geometry::CENTRE_LIMIT": [
         ("docs/formats.md", "is above {}; equal is allowed"),
@@ -30,8 +29,7 @@ SPELLED = {
          "layer in micrometres]:micrometres (1 to {})"),
         ("completions/stlslice.fish", "pixel in micrometres, 1 to {}", "layer in micrometres, 1 to {}"),
         ("include/stlslice.h", "along x and y, 1 to {} ", "along z, 1 to {} "), ("docs/refused.md", "1..={}"),
-        ("commands/stlslice_commands/slicing.py", "LARGEST_PITCH = {}"),
-        ("commands/stlslice_commands/page.py", "LARGEST = {} # micrometres"),
+        ("commands/stlslice_commands/words.py", "micrometres = whole(MOST_WORKERS), whole({})"),
         ("library/web/preview.html", 'id="pitch" value="50" min="1" max="{}"', 'id="height" value="50" min="1" max="{}"'),
         ("library/tests/calls.c", "pitch and layer height take 1 to {} micrometres"),
         ("library/tests/hostile.c", "pitch and layer height take 1 to {} micrometres"),
@@ -47,7 +45,7 @@ SPELLED = {
     "geometry::LAYER_LIMIT": [
         ("--help", " and {}), and its least"), ("docs/usage.md", " and {}; the least corner"),
         ("docs/formats.md", "rows, {} layers."), ("man/stlslice.1", " and {}, and its least corner"),
-        ("include/stlslice.h", " and {} */"), ("docs/refused.md", "{} layers"), ("SECURITY.md", " x {} voxels"),
+        ("include/stlslice.h", " and {}; for"), ("docs/refused.md", "{} layers"), ("SECURITY.md", " x {} voxels"),
         ("crates/test_meshes/src/published.rt", "MOST_LAYERS: u32 = {};")],
     "binary_stl::TEXT_LIMIT": [("docs/formats.md", "none below {} bytes")],
     "geometry::FACET_LIMIT": [
@@ -56,9 +54,9 @@ SPELLED = {
         ("docs/refused.md", "More than {} facets"), ("SECURITY.md", "and the mesh {} facets"),
         ("README.md", "at most {} facets and"), ("docs/printing.md", "| more than {} facets |", "[more than {} facets]"),
         ("man/stlslice-sl1.1", "more than {} facets"), ("man/stlslice-pngs.1", "more than {} facets"),
-        ("commands/stlslice_commands/stl.py", "FACETS = {}"),
+        ("commands/stlslice_commands/meshes.py", "FACETS = {}"), ("commands/stlslice_commands/shells.py", "LIMIT = {} - 2"),
         ("commands/stlslice_commands/words.py", "more than {} facets"),
-        ("commands/stlslice_commands/program.py", "a mesh has at most {} facets"),
+        ("commands/stlslice_commands/parts.py", "a mesh has at most {} facets"),
         ("library/tests/hostile.c", "most = {};")],
     "stripe_claims::PASS_LIMIT": [
         ("--help", "Number of threads, 1 to {}"), ("docs/usage.md", "| `--workers N` | 1 to {}; default"),
@@ -67,13 +65,12 @@ SPELLED = {
         ("docs/decisions/single-worker.md", "has 1 to {} workers"),
         ("docs/printing.md", "at most {} | threads of the slicer, 1 to {} |"),
         ("commands/stlslice_commands/words.py", "MOST_WORKERS = {}", "threads of the slicer, 1 to {} ("),
-        ("commands/stlslice_commands/page.py", "threads of the slicer, 1 to {} ("),
         *((f"man/stlslice-{it}.1", "Threads of the slicer, 1 to {}.") for it in ("sl1", "pngs", "page")),
         *((f"completions/_stlslice-{it}", "threads of the slicer]:number (1 to {}):") for it in ("sl1", "page")),
         *((f"completions/stlslice-{it}.fish", "Threads of the slicer, 1 to {}'") for it in ("sl1", "page"))],
     "micro_num::WORD_LIMIT": [
         ("docs/formats.md", "At most {} bytes."), ("docs/refused.md", "{} bytes"),
-        ("commands/stlslice_commands/stl.py", "LONGEST = {} # bytes of a number")],
+        ("commands/stlslice_commands/meshes.py", "LONGEST = {} # bytes of a number")],
     "stl_text::WORD_FRONT": [
         ("docs/decisions/front-of-a-word.md", "keeps the first {} bytes of such a word"),
         ("docs/usage.md", "holds the first {} bytes of a word")],

@@ -12,7 +12,7 @@ import zipfile
 
 from as_installed import PAGE, PNGS, SHARE, SL1
 from common import BRACKET, Case, bytes_of, example, name_of, needs, same
-from parts import FACES, SIDES, box, formats, lines, obj, points, text
+from parts import FACES, SIDES, binary, box, formats, lines, obj, points, text
 
 from stlslice_commands import faults, meshes, parts
 
@@ -182,9 +182,10 @@ class ThreeMfs(Case):
 
         for body, line in (
                 (changed('v1="0"', 'v1="8"'), "object 1 has a triangle with a point that it hasn't"),
-                (changed(' z="0"', ""), "z is missing"), (changed('x="10"', 'x="nan"'), "'nan' is no number"),
+                (changed(' z="0"', ""), "z is missing"), (changed('x="10"', 'x="nan"'), "'nan' is not a number"),
                 (changed('v1="0"', 'v1="1_0"'), "a triangle has an index that is no number"),
-                (changed('x="10"', 'x="1e300"'), "'1e300' is too large"),
+                *((changed('x="10"', f'x="{far}"'), "object 1 reaches beyond 128 m from the origin")
+                  for far in ("1e300", "-1e9999999999999999999999")),
                 (model(words='unit="furlong"'), "there is no unit 'furlong'"),
                 (changed('x="10"', 'x="128000.0005"'), "object 1 reaches beyond 128 m from the origin"),
                 (model(items=placed("1 0 0")), "a transform hasn't twelve numbers of at most 40 bytes"),
@@ -276,20 +277,22 @@ class HostileFiles(Case):
 
     def test_mutated_files_are_taken_or_refused_in_one_line(self):
         """No fault but one with a line and a status of the commands, and no file is left."""
-        draw, taken = random.Random(7), 0
-        bodies = {"3mf": packed(model()), "obj": obj(LOW, HIGH).encode(), "xml": model().encode()}
+        draw, taken = random.Random(7), {}
+        bodies = {"3mf": packed(model()), "obj": obj(LOW, HIGH).encode(), "xml": model().encode(), "stl": binary(box(LOW, HIGH))}
         given = type("Given", (), {"part": self.room.file("part"), "unit": "mm"})()
-        for number in range(600):
-            kind = ("3mf", "obj", "xml")[number % 3]
+        for number in range(800):
+            kind = sorted(bodies)[number % 4]
             body = mutated(draw, bodies[kind])
             self.room.put("part", packed(body) if kind == "xml" else body)
             try:
-                with parts.opened(given) as (file, _):
-                    file.seek(0)
-                    taken += bool(file.read(1))
+                mesh, = parts.Part(given).open(canvas=(160, 120), pitch=250, layer=500)
+                taken[kind] = taken.get(kind, 0) + len(mesh.areas())
+            except parts.stlslice.FitFault:
+                pass
             except faults.Refused as fault:
-                assert fault.status in (1, 2, 3) and len(fault.line) < 500, f"{number}: {fault.status}, {fault.line}"
-        assert taken > 30, f"only {taken} were taken"
+                line = fault.told + (fault.line or "")
+                assert fault.status in (1, 2, 3, 4, 5) and 9 < len(line) < 500, f"{number}: {fault.status}, {line}"
+        assert len(taken) == 4 and min(taken.values()) > 60, f"layers of those that were taken: {taken}"
         same(self.room.files(), ["part"], "files")
 
 

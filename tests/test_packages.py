@@ -1,17 +1,15 @@
 """The Debian packages of the program and of the library have what belongs there, in Debian's places. Made twice they are the
 same bytes. lintian reports no fault in them beyond what the packages' overrides explain. make dist gives the same bytes at
-another time, in another place and under another umask. What is in the tarball has the SHA-256 that stands beside it, and runs.
-The library, if it is built, is there too, and pkg-config finds it where that is."""
+another time, in another place and under another umask. What is in the tarball has the SHA-256 that stands beside it, and runs, and
+pkg-config finds the library there."""
 
 import glob
-import hashlib
 import os
 import re
-import shutil
 import tarfile
 
-from common import (LIBRARY, PROGRAM, ROOT, TELLS_VERSION, Together, bytes_of, commands_work, library, links_hold, needs,
-                    number_of, same, version)
+from common import (LIBRARY, PROGRAM, TELLS_VERSION, Together, bytes_of, commands_work, library, links_hold, needs, number_of,
+                    released, same, version)
 
 PLACES = """./usr/bin/stlslice ./usr/share/man/man1/stlslice.1.gz ./usr/share/doc/stlslice/copyright
 ./usr/share/doc/stlslice/changelog.gz ./usr/share/doc/stlslice/examples/bracket.stl
@@ -39,8 +37,9 @@ def listed(room, package):
     return {line[5]: (line[0], line[1]) for line in lines}
 
 
-class Packages:
-    """What is tried of the packages with these NAMES, once they are made and opened. Several are those of the library too."""
+@needs("dpkg-deb", "dpkg", "make")
+class Packages(Together):
+    NAMES = ["stlslice", *FILES]
 
     @classmethod
     def make_ready(cls, room):
@@ -51,7 +50,7 @@ class Packages:
     @classmethod
     def made(cls, room, name):
         """The packages, in an own folder of the room."""
-        room.out("tools/deb", PROGRAM, version(), room.file(name), *([library()] if len(cls.NAMES) > 1 else []))
+        room.out("tools/deb", PROGRAM, version(), room.file(name), library())
         wanted = [f"{it}_{version()}-1_amd64.deb" for it in cls.NAMES]
         same(sorted(os.listdir(room.file(name))), sorted(wanted), "packages")
         return [room.file(name, it) for it in wanted]
@@ -64,28 +63,20 @@ class Packages:
     def test_lintian_finds_no_fault(self):
         same(self.room.run("lintian", "--allow-root", *self.packages).out, "", "what lintian has to say")
 
-
-@needs("dpkg-deb", "make")
-class OfProgram(Packages, Together):
-    NAMES = ["stlslice"]
-
-    def test_its_places_are_roots(self):
+    def test_the_programs_places_are_roots(self):
         files = listed(self.room, self.packages[0])
         for place in PLACES:
             assert place in files and files[place][1] == "root/root", f"{place}: {files.get(place)}"
         beside = [it for it in files if it.startswith(("./usr/lib/", "./usr/include/"))]
         same(beside, [], "what it has of the library, which is a package of its own")
+        depends = self.room.run("dpkg-deb", "-f", self.packages[0], "Depends").out
+        assert f"libstlslice1 (= {version()}-1)" in depends, f"it wants the library: {depends}"
 
-    def test_its_commands_run(self):
+    def test_the_commands_run(self):
         commands_work(self.room.file("opened/usr/bin"), self.room)
 
-    def test_links_of_its_documents_hold(self):
+    def test_links_of_documents_hold(self):
         links_hold(self.room.file("opened/usr/share/doc/stlslice"))
-
-
-@needs("dpkg-deb", "dpkg", "make")
-class OfLibrary(Packages, Together):
-    NAMES = ["stlslice", *FILES]
 
     def test_each_file_is_in_one_of_them_as_built(self):
         seen = set()
@@ -114,45 +105,20 @@ class OfLibrary(Packages, Together):
         self.room.out(program, env=self.room.with_env(LD_LIBRARY_PATH=self.room.file("opened", LIB)))
 
 
-WITHOUT = "tools/dist: the library isn't built (make library), so the tarball has the program alone\n"
-
-
-def tarball_of(room, name, umask, *built):
-    """The tarball, made in a copy of the repository's files whose times differ."""
-    copy = room.file(name)
-    shutil.copytree(ROOT, copy, ignore=shutil.ignore_patterns(".git", "crates", "build", "__pycache__"))
-    for at, _, names in os.walk(copy):
-        for it in names:
-            os.utime(os.path.join(at, it), (umask * 1000, umask * 1000))
-    words = ["tools/dist", PROGRAM, version(), f"{copy}/out", *built]
-    ran = room.bash(f'umask {umask:03}; exec "$@"', *words, cwd=copy)
-    same((ran.status, ran.fault), (0, "" if built else WITHOUT), f"status of tools/dist in {name}")
-    tarball, = glob.glob(f"{copy}/out/*.tar.gz")
-    said = f"{hashlib.sha256(bytes_of(tarball)).hexdigest()}  {os.path.basename(tarball)}\n"
-    same(ran.out, said, "SHA-256 of the tarball")
-    return tarball
-
-
-class Tarball:
-    """What is tried of a tarball of the program, and of what `beside` gives. It is unpacked into `folder`."""
-
-    beside = []
+class Tarball(Together):
+    @classmethod
+    def made(cls, room, name, umask):
+        return released(room, name, umask, PROGRAM, library())
 
     @classmethod
     def make_ready(cls, room):
-        cls.tarball = tarball_of(room, "one", 22, *cls.beside)
+        cls.tarball = cls.made(room, "one", 22)
         with tarfile.open(cls.tarball) as archive:
             archive.extractall(room.file("opened"))
         cls.folder, = glob.glob(room.file("opened", "*"))
 
     def test_it_is_made_alike_again(self):
-        assert bytes_of(self.tarball) == bytes_of(tarball_of(self.room, "another", 77, *self.beside)), "other bytes"
-
-
-class TarballOfProgram(Tarball, Together):
-    def test_its_sum_and_its_name_are_right(self):
-        same(os.path.basename(self.folder), os.path.basename(self.tarball)[:-len(".tar.gz")], "the folder's name")
-        same(self.room.run("sha256sum", "-c", "SHA256SUMS", cwd=self.folder).out, "stlslice: OK\n", "sha256sum -c")
+        assert bytes_of(self.tarball) == bytes_of(self.made(self.room, "another", 77)), "other bytes"
 
     def test_its_commands_run_where_it_is_unpacked(self):
         commands_work(self.folder, self.room)
@@ -160,18 +126,13 @@ class TarballOfProgram(Tarball, Together):
     def test_it_has_what_goes_with_the_program(self):
         for name in ("README.md", "LICENSE", "stlslice.1", "completions/_stlslice", "docs/PROVED.md", "CONTRIBUTING.md",
                      "SECURITY.md", "stlslice-sl1.1", "stlslice-page.1", "completions/_stlslice-page",
-                     "stlslice_commands/printers.csv", "completions/stlslice-sl1.fish", "examples/bracket.stl"):
+                     "stlslice_commands/printers.csv", "python/stlslice/__init__.py", "completions/stlslice-sl1.fish",
+                     "examples/bracket.stl"):
             assert os.path.exists(os.path.join(self.folder, name)), f"{name} isn't in it"
         links_hold(self.folder)
 
-
-class TarballWithLibrary(Tarball, Together):
-    @classmethod
-    def make_ready(cls, room):
-        cls.beside = [library()]
-        super().make_ready(room)
-
     def test_its_sums_and_links_are_right(self):
+        same(os.path.basename(self.folder), os.path.basename(self.tarball)[:-len(".tar.gz")], "the folder's name")
         shared = f"libstlslice.so.{version()}"
         wanted = [f"{name}: OK" for name in ("stlslice", "include/stlslice.h", "lib/libstlslice.a", f"lib/{shared}")]
         same(self.room.run("sha256sum", "-c", "SHA256SUMS", cwd=self.folder).out.splitlines(), wanted, "sha256sum -c")

@@ -227,14 +227,16 @@ class Printing(Case):
         for number, block in enumerate(BLOCKS):
             if block.language != "sh" or block.head not in heads or block.words or lacking(*needed(block)):
                 continue
-            for bad, line in (("nothing", "expected solid at byte 0"),
-                              (text(box((0, 0, 0), (9, 9, 9))[1:]), "open edge 0 0 0 to 0 9000 0 there 0 back 1")):
+            # of a part that stands turned, as in portrait, another edge may be the least
+            for bad, *lines in (("nothing", "expected solid at byte 0"),
+                                (text(box((0, 0, 0), (9, 9, 9))[1:]), "open edge 0 0 0 to 0 9000 0 there 0 back 1",
+                                 "open edge 0 9000 0 to 9000 9000 0 there 0 back 1")):
                 here = self.folder(f"{number}{bad[0]}")
                 self.room.put(f"{number}{bad[0]}/part.stl", bad)
-                fault, first = self.room.bash(block.body, cwd=here).fault, f"stlslice: {line}\n"
+                fault, firsts = self.room.bash(block.body, cwd=here).fault, tuple(f"stlslice: {it}\n" for it in lines)
                 # GNU parallel may name the failed job before it passes on what that job said
-                by_parallel = fault.startswith("parallel: This job failed:\n") and "\n" + first in fault
-                assert fault.startswith(first) or by_parallel, f"{block.head}: {fault!r}"
+                by_parallel = fault.startswith("parallel: This job failed:\n") and any("\n" + it in fault for it in firsts)
+                assert fault.startswith(firsts) or by_parallel, f"{block.head}: {fault!r}"
                 left = set(os.listdir(here))
                 same(left & names, set(), f"{block.head}: files")
                 layers = os.listdir(os.path.join(here, "layers")) if "layers" in left else []

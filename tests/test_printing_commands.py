@@ -2,16 +2,18 @@
 pixels that aren't square, binary STL and other formats, units, shells inside out, more facets than the program takes."""
 
 import gzip
+import json
 import os
 import pty
 import re
 import shutil
+import struct
 import subprocess
 import sys
 import zipfile
 
-from as_installed import PAGE, PNGS, SHARE, SL1, slicer, wrong_words
-from common import BRACKET, PROGRAM, Case, bytes_of, example, name_of, same
+from as_installed import PAGE, PNGS, SHARE, SL1, wrong_words
+from common import Case, bytes_of, example, name_of, same
 from parts import SHORT_FACET, archived, binary, box, centred, formats, lit, mirrored, pixels_of_png, text, turned_over
 from terminal import shown_on_a_terminal
 
@@ -33,9 +35,9 @@ def changed(facets, change):
 LIMITED = """import sys
 sys.argv[0], limit = "stlslice-sl1", int(sys.argv.pop(1))
 sys.path.insert(0, sys.argv.pop(1))
-from stlslice_commands import faults, shells, sl1
+from stlslice_commands import shells, sl1
 shells.LIMIT = limit
-faults.ended(sl1.main)
+sl1.run()
 """
 
 
@@ -165,18 +167,27 @@ class Commands(Case):
         rows = [row.count(255) for row in self.images("--canvas", "200x180", "--pitch", "19x24", "--layer", "250", one)[0]]
         same((max(rows), len([row for row in rows if row])), (100, 100), "pixels across and down")
 
-    def test_corners_come_apart_and_parts_are_far_by_a_pitch(self):
+    def test_corners_stay_together_and_parts_are_near_by_any_pitch(self):
         # two spellings of a corner that are the same micrometre, and not the same quarter of one
         near = self.part([tuple(tuple("0.0002" if k % 2 and x == 0 else "0.0001" if x == 0 else x for x in corner)
                                 for corner in corners) for k, corners in enumerate(box((0, 0, 0), (3, 3, 1)))])
-        same(self.said(*SCREEN, near), "", "corners that nearly meet")
-        first, *rest = self.refusal(4, "--canvas", "200x180", "--pitch", "47.25", near).splitlines()
-        assert first.startswith("stlslice: open edge "), first
-        same(rest, ["stlslice-sl1: corners that nearly meet come apart when x and y are multiplied, which this pitch needs; "
-                    "admesh joins them"], "corners that come apart")
+        whole = self.part(box((0, 0, 0), (3, 3, 1)), name="whole.stl")
+        for words in (SCREEN, ["--canvas", "200x180", "--pitch", "47.25"]):
+            found, wanted = self.made(*words, near), self.made(*words, whole)
+            same((found[1], found[4]), ("", wanted[4]), f"corners that nearly meet, {words}")
         far = self.part(box((1000, 0, 0), (1001, 1, 1)))
-        line = "%s: the part lies 1001 mm from the origin, and for this pitch at most 640 mm are taken"
-        self.refused(1, line, "--canvas", "200x180", "--pitch", "47.25x50", far)
+        self.refused(5, "stlslice: part too far from the origin for these pixels", "--canvas", "200x180", "--pitch", "47.25x50", far)
+        for pitch in ("22.345x24.321", "200000", "123456.789"):
+            self.refused(1, "stlslice: no whole number of micrometres up to 100000 is a multiple of both sides of a pixel",
+                         "--canvas", "99x99", "--pitch", pitch, whole)
+
+    def test_as_many_layers_as_have_their_middle_in_the_part(self):
+        """And at least one, which is dark, so that the part is refused."""
+        for height, layers in (("0.251", 1), ("0.75", 1), ("0.751", 2), ("1.03", 2), ("5", 10)):
+            same(len(self.images(*SCREEN, self.part(box((0, 0, 0), (3, 3, height))))), layers, f"layers of {height} mm")
+        for height in ("0.001", "0.25"):
+            said = self.refusal(1, *SCREEN, self.part(box((0, 0, 0), (3, 3, height))))
+            assert "no pixel is lit" in said, f"{height} mm: {said}"
 
     def test_binary_stl_is_read(self):
         facets = changed(SHAPE, lambda x: float("%.4g" % (0.37 * x)))
@@ -191,8 +202,19 @@ class Commands(Case):
                      "bytes, and it has 1,000", *SCREEN, cut)
         hole = self.refusal(4, *SCREEN, self.part(facets[1:], binary))
         assert hole.startswith("stlslice: open edge "), "an open binary STL"
-        bad = self.refusal(3, *SCREEN, self.part([((0, 0, "nan"), (0, 0, 0), (1, 1, 1))], binary))
-        assert "stlslice-sl1: facet 0 of the binary STL has a coordinate that is no number (nan or inf)\n" in bad, bad
+        for number, line in (("nan", "not a number"), ("-inf", "infinite"), ("128001", "out of range")):
+            for words in ([], ["--shells"]):
+                self.refused(3, f"stlslice: z of corner 1 of facet 0: {line}", *SCREEN, *words,
+                             self.part([((0, 0, 0), (0, 0, number), (1, 1, 1))], binary))
+
+    def test_numbers_of_binary_stl_are_exact_values(self):
+        """0.0005 in single precision is a little more than half a micrometre, and 1.0005 a little less than 1000 and a half."""
+        for number, micrometres in ((0.0005, 1), (1.0005, 1000), (-1.0005, -1000), (0.1, 100), (0.0625, 63)):
+            exact = struct.unpack("<f", struct.pack("<f", number))[0]
+            assert abs(exact * 1000 - micrometres) <= 0.5, f"{number} is {exact}"
+            told = json.loads(self.made("--canvas", "99x99", "--pitch", "100", "--json",
+                                        self.part(box((number, 0, 0), (5, 5, 5)), binary))[0])
+            same(told["size"], [(5000 - micrometres) / 1000, 5, 5], f"size from {number}")
 
     def test_other_formats_are_told_with_a_command(self):
         """If its tool is here, that is run, and its STL gives the part's images."""
@@ -244,6 +266,9 @@ class Commands(Case):
         line = ("stlslice-sl1: the part is 0.120 x 0.200 x 0.050 mm: is mm the unit of its numbers? --unit takes mm, cm, m "
                 "or inch\n")
         same(self.said("--canvas", "99x99", "--pitch", "5", "--layer", "5", tiny), line, "a part below a millimetre")
+        hole = self.part(changed(SHAPE[1:], lambda x: x / 100))
+        said = self.refusal(4, *SCREEN, hole)
+        assert said.startswith(line + "stlslice: open edge "), f"an open part below a millimetre: {said}"
         said = self.refusal(1, *SCREEN, self.part(box((0, 0, 0), (1001, 1, 1))))
         assert said.startswith("stlslice-sl1: the part is 1001.000 x 1.000 x 1.000 mm: is mm the unit of its numbers?"), said
         metre = self.part(box((0, 0, 0), (1000, 1, 1)))
@@ -262,7 +287,7 @@ class Commands(Case):
             same(self.said(*SCREEN, *words, self.part(facets)), "", f"nothing to warn of {words}")
 
     def joined(self, rule, facets, *more, spelled=text, limit=24):
-        words = [*SCREEN, *more, "--program", PROGRAM, "--shells", "--rule", rule, self.part(facets, spelled)]
+        words = [*SCREEN, *more, "--shells", "--rule", rule, self.part(facets, spelled)]
         out = self.room.file("out")
         return self.room.run(sys.executable, "-c", LIMITED, str(limit), SHARE, *words, out, cwd=self.room.path), out
 
@@ -322,7 +347,7 @@ class Commands(Case):
                 (whole.replace("vertex 12", "vertex nan"), f"number at byte {at + 7}: not a number")):
             part = self.room.put("part.stl", body)
             for command in (SL1, PNGS):
-                self.refused(3, f"%s: {line}", *SCREEN, "--shells", part, command=command)
+                self.refused(3, f"stlslice: {line}", *SCREEN, "--shells", part, command=command)
         empty = self.room.put("part.stl", "solid\nendsolid\n")
         self.refused(1, "%s: the part has no facets", *SCREEN, "--shells", empty)
         found = self.images(*SCREEN, "--shells", self.room.put("part.stl", whole))
@@ -345,16 +370,16 @@ sys.exit(status)
 
 class Terminals(Case):
     def test_phases_are_shown_at_once(self):
-        """A stand-in for the slicer reads within no time, and slices until it is stopped; the line is taken away then."""
-        path = slicer(self.room, "", start='case "$*" in *--box*) ;; *) exec sleep 60; esac')
+        """A part with tens of thousands of layers is stopped while it is sliced; the line is taken away then."""
+        part = self.room.put("part.stl", text(box((0, 0, 0), (70, 70, 60))))
         for command in (SL1, PNGS, PAGE):
-            words = [command, "--canvas", "99x99", "--pitch", "250", "--program", path, BRACKET]
-            found = shown_on_a_terminal([*words, self.room.file("out")], b"slicing")
+            words = [command, "--canvas", "9999x9999", "--pitch", "10", "--layer", "1", part, self.room.file("out")]
+            found = shown_on_a_terminal(words, b"slicing")
             same(found, (143, "", b"\r\x1b[Kreading\r\x1b[Kslicing\r\x1b[K"), name_of(command))
-        same(self.room.files(), ["slicer"], "files")
+        same(self.room.files(), ["part.stl"], "files")
 
     def test_progress_is_shown(self):
-        words = [SL1, "--program", PROGRAM, "--canvas", "3000x3000", "--pitch", "20", "--layer", "4",
+        words = [SL1, "--canvas", "3000x3000", "--pitch", "20", "--layer", "4",
                  example("supported.stl")]
         status, told, shown = shown_on_a_terminal([*words, self.room.file("out")])
         same((status, told.count("\n")), (0, 1), "run")
@@ -375,10 +400,10 @@ class Terminals(Case):
         os.close(theirs)
 
     def test_memory_is_small(self):
-        """A large screen, and a binary part of 64,000 facets: neither command nor program takes 200 MB."""
+        """A large screen, and a binary part of 64,000 facets: at most 150 bytes a facet and 60 MB."""
         grid = [box((x, y, 0), (x + 0.5, y + 0.5, 0.1)) for x in range(73) for y in range(73)]
         part = self.room.put("part.stl", binary([facet for facets in grid for facet in facets]))
         words = [SL1, "--canvas", "11520x5120", "--pitch", "19x24", "--layer", "50", part, self.room.file("out")]
         # asked by a small process, since a process counts the memory of the one that it was forked from
         most = int(self.room.done(sys.executable, "-c", MEASURED, *words).out.split()[-1])
-        assert 20_000 < most < 195_000, f"{most} KiB"
+        assert 10_000 < most < 60_000 + 0.150 * 12 * 73 * 73, f"{most} KiB"

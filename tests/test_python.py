@@ -1,11 +1,12 @@
 """The wheel has module, library and licence, with the hashes that it gives. Made twice it is the same bytes. pip installs
-it, without a network, into an environment of its own, where the module answers the program's images and faults. If numpy is
-there, the lines of README and of docs/embedding.md run in it too. Then arguments that lie: bytes that tell another length, and
-arrays of which numbers are masked."""
+it, without a network, into an environment that has nothing else, where the module answers the program's images and faults.
+With numpy beside it the lines of README and of docs/embedding.md run. Then arguments that lie: bytes that tell another length,
+and arrays of which numbers are masked."""
 
 import array
 import base64
 import csv
+import glob
 import hashlib
 import importlib
 import io
@@ -20,12 +21,13 @@ USE = """
 import hashlib, os, sys, stlslice
 assert os.path.realpath(stlslice.__file__).startswith(os.path.realpath(sys.prefix)), stlslice.__file__
 with stlslice.open(sys.argv[1], pitch=100, layer=500) as mesh:
-    print(stlslice.version(), len(mesh), hashlib.sha256(b"".join(map(mesh.image, range(len(mesh))))).hexdigest())
+    print(stlslice.__version__, len(mesh), hashlib.sha256(b"".join(map(mesh.image, range(len(mesh))))).hexdigest())
 try:
     stlslice.open(b"solid")
 except stlslice.Fault as fault:
     print(fault.status, fault.line)
 """
+COMMANDS = [it for it in os.listdir(os.path.join(ROOT, "commands/stlslice_commands")) if "." in it]
 
 
 def made(room, name):
@@ -42,19 +44,20 @@ class Wheel(Together):
         for name in ("STLSLICE_LIBRARY", "PYTHONPATH"):
             room.environment.pop(name, None)
         cls.wheel, cls.python = made(room, "one"), room.file("own/bin/python")
-        own = room.run(python_with("numpy", "venv"), "-m", "venv", "--system-site-packages", room.file("own"))
+        own = room.run(python_with("venv"), "-m", "venv", room.file("own"))
         if own.status:
             skip("venv is missing (Debian: python3-venv)")
-        words = ["-m", "pip", "install", "-q", "--disable-pip-version-check", "--no-index", "--no-deps", cls.wheel]
+        words = ["-m", "pip", "install", "-q", "--disable-pip-version-check", "--no-index", cls.wheel]
         cls.pip = room.run(cls.python, *words)
 
     def test_it_is_made_alike_again(self):
         assert bytes_of(self.wheel) == bytes_of(made(self.room, "another")), "other bytes"
 
     def test_its_record_has_each_file_with_hash_and_size(self):
-        info = f"stlslice-{version()}.dist-info"
-        files = zipped(self.wheel)
+        info, files = f"stlslice-{version()}.dist-info", zipped(self.wheel)
         wanted = [f"stlslice/{it}" for it in ("__init__.py", "libstlslice.so.1", "py.typed")]
+        wanted += [it for it in files if it.startswith("stlslice_commands/") and it[18:] in COMMANDS] + [f"{info}/entry_points.txt"]
+        same(sum(it.startswith("stlslice_commands/") for it in wanted), len(COMMANDS), "files of the commands")
         same(sorted(files), sorted(wanted + [f"{info}/{it}" for it in ("LICENSE", "METADATA", "RECORD", "WHEEL")]), "files")
         assert files["stlslice/libstlslice.so.1"] == bytes_of(library()), "its library isn't the one that was built"
         rows = {name: (told, size) for name, told, size in csv.reader(io.StringIO(files[f"{info}/RECORD"].decode()))}
@@ -62,7 +65,8 @@ class Wheel(Together):
         for name, body in files.items():
             told = "sha256=" + base64.urlsafe_b64encode(hashlib.sha256(body).digest()).rstrip(b"=").decode()
             same(rows[name], ("", "") if name.endswith("/RECORD") else (told, str(len(body))), f"hash and size of {name}")
-        assert f"\nVersion: {version()}\n" in files[f"{info}/METADATA"].decode(), "it doesn't tell its version"
+        for told in (f"Version: {version()}", "Requires-Dist: numpy >=1.17 ; extra == 'numpy'"):
+            assert f"\n{told}\n" in files[f"{info}/METADATA"].decode(), f"it doesn't tell {told}"
         tag = re.search(r"(?m)^Tag: (.*)$", files[f"{info}/WHEEL"].decode())[1]
         same(os.path.basename(self.wheel), f"stlslice-{version()}-{tag}.whl", "its name")
         told = tuple(map(int, re.search(r"manylinux_(\d+)_(\d+)_x86_64", tag).groups()))
@@ -78,29 +82,36 @@ class Wheel(Together):
         same(told.splitlines(), [f"{version()} 24 {hashlib.sha256(stream).hexdigest()}",
                                     f"{refused.status} {refused.fault.rstrip()}"], "its images and its fault")
 
+    def test_its_commands_slice(self):
+        for name, out in (("sl1", "part.sl1"), ("pngs", "pngs"), ("page", "page.html")):
+            words = ["--canvas", "800x400", "--pitch", "50", "--layer", "1000", BRACKET, out]
+            told = self.room.out(self.room.file("own/bin", f"stlslice-{name}"), *words, cwd=self.room.path)
+            assert "27 layers" in told, f"stlslice-{name}: {told}"
+
     def test_the_module_of_the_tree_takes_the_library_that_is_named(self):
         for named, wanted in ((library(), (0, f"{version()}\n", "")), (self.room.file("none"), (1, "", "ImportError"))):
             env = self.room.with_env(PYTHONPATH=os.path.join(ROOT, "python"), STLSLICE_LIBRARY=named)
-            ran = self.room.run(sys.executable, "-c", "import stlslice; print(stlslice.version())", env=env)
+            ran = self.room.run(sys.executable, "-c", "import stlslice; print(stlslice.__version__)", env=env)
             last = ran.fault.splitlines()[-1] if ran.fault else ""
             same((ran.status, ran.out, last.split(":")[0]), wanted, f"the module with {named}")
             assert not last or "STLSLICE_LIBRARY" in last, f"its last line doesn't say what is missing: {last}"
 
     def test_the_lines_of_documents_run(self):
         """The Python of README runs as it stands, and so does the preview, which shows the gear."""
-        if self.room.run(self.python, "-c", "import numpy").status:
+        python, env = python_with("numpy"), self.room.with_env(PYTHONPATH=glob.glob(self.room.file("own/lib/*/site-packages"))[0])
+        if self.room.run(python, "-c", "import numpy").status:
             skip("numpy is missing (Debian: python3-numpy)")
         readme = re.search(r"(?ms)^```python\n(.*?)^```$", text_of("README.md"))[1]
         part = self.room.put("part.stl", bytes_of("examples/bracket.stl"))
         shown = ("print(mask.shape, mask.dtype, int(mask.sum()) == area > 0, image[:11], len(image), "
                  "[len(it) > 2 for it in loops])")
-        told = self.room.out(self.python, "-c", readme + shown, cwd=self.room.path)
+        told = self.room.out(python, "-c", readme + shown, cwd=self.room.path, env=env)
         report = self.room.run("stlslice", *"--pitch 50 --layer 50 --rule positive --report".split(), path=part).out
         count = int(re.search(r"(?m)^layer 120 loops (\d+) ", report)[1])
         wanted = f"(240, 640) bool True b'P4\\n640 240\\n' {11 + 80 * 240} {[True] * count}\n"
         same(told, wanted, "README's lines")
         preview = re.search(r"(?ms)^## A preview in Python\n.*?^```python\n(.*?)^```$", text_of("docs/embedding.md"))[1]
-        picture = self.room.out(self.python, "-c", preview, path=GEAR, text=False)
+        picture = self.room.out(python, "-c", preview, path=GEAR, env=env, text=False)
         same((picture[:15], len(picture)), (b"P5\n300 300\n255\n", 15 + 90000), "a picture of 300 by 300 pixels")
 
 
@@ -127,17 +138,15 @@ import numpy
 import stlslice
 points = numpy.array([[0, 0, 0], [1000, 0, 0], [0, 1000, 0], [0, 0, 1000]])
 triangles = numpy.array([[0, 2, 1], [0, 1, 3], [1, 2, 3], [2, 0, 3]])
-masked = lambda rows: numpy.ma.masked_equal(rows, 3 if rows is triangles else 1000)
-bare = lambda rows: numpy.ma.array(rows)
+masked, bare = (lambda rows: numpy.ma.masked_equal(rows, 3 if rows is triangles else 1000)), numpy.ma.array
 area = stlslice.open_mesh(points, triangles, 10, 10).area(0)
 assert stlslice.open_mesh(bare(points), bare(triangles), 10, 10).area(0) == area > 0
 assert (stlslice.micrometres(bare(points)) == stlslice.micrometres(points)).all()
 for name, call in (("points", lambda: stlslice.open_mesh(masked(points), triangles)),
                    ("points", lambda: stlslice.open_mesh(list(masked(points)), triangles)),
-                   ("points", lambda: stlslice.open_mesh(tuple(masked(points)), triangles)),
                    ("triangles", lambda: stlslice.open_mesh(points, masked(triangles))),
-                   ("millimetres", lambda: stlslice.micrometres(masked(points) / 7)),
-                   ("millimetres", lambda: stlslice.micrometres(masked(points).astype("float32")))):
+                   ("points", lambda: stlslice.micrometres(masked(points) / 7)),
+                   ("points", lambda: stlslice.micrometres(masked(points).astype("float32")))):
     try:
         call()
     except stlslice.RangeFault as fault:

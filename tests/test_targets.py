@@ -2,18 +2,19 @@
 answer. They are built of the LLVM module of the native one, which `make library` leaves. The programs in C are those of
 library/tests. The wheel for ARM runs in Debian's Python, which tests/install_packages keeps."""
 
-import importlib.machinery
-import importlib.util
 import os
 import re
+import runpy
 import sys
+import types
 import zipfile
 from concurrent.futures import ThreadPoolExecutor
 
-from common import (BRACKET, GEAR, PROGRAM, ROOT, Case, Room, Together, bytes_of, example, library, needs, same, skip, text_of,
-                    version)
+from common import (BRACKET, GEAR, PROGRAM, ROOT, TELLS_VERSION, Case, Room, Together, bytes_of, example, library, links_hold,
+                    needs, number_of, released, same, skip, text_of, version)
+from parts import zipped
 
-MODULE = "build/made/module.bc"
+PAGE = os.path.join(ROOT, "build", "web", "preview.html")
 PYTHON = os.path.join(os.environ.get("XDG_CACHE_HOME") or os.path.expanduser("~/.cache"), "stlslice", "python-arm64")
 # of how many random parts each answer is compared; more can be asked for by hand
 PARTS = int(os.environ.get("STLSLICE_PARTS", "12"))
@@ -21,14 +22,7 @@ PARTS = int(os.environ.get("STLSLICE_PARTS", "12"))
 SANE = ["-g", "-O1", "-fsanitize=undefined", "-fsanitize-undefined-trap-on-error"]
 
 
-def script(*path):
-    loader = importlib.machinery.SourceFileLoader("_".join(path), os.path.join(ROOT, *path))
-    module = importlib.util.module_from_spec(importlib.util.spec_from_loader(loader.name, loader))
-    loader.exec_module(module)
-    return module
-
-
-library_test = script("library", "test")
+library_test = types.SimpleNamespace(**runpy.run_path(os.path.join(ROOT, "library", "test")))
 
 
 def two_at_a_time(call, *lists):
@@ -60,10 +54,8 @@ class Tried:
     @classmethod
     def make_ready(cls, room):
         library()
-        if not os.path.exists(os.path.join(ROOT, MODULE)):
-            skip(f"{MODULE} isn't there (make library)")
         cls.folder = room.file("library")
-        told = room.out("library/build", cls.TARGET, MODULE, cls.folder, version(), "/usr/local")
+        told = room.out("library/build", cls.TARGET, "build/made/module.bc", cls.folder, version(), "/usr/local")
         same(told, "", "what library/build says")
         cls.files = sorted(os.listdir(cls.folder))
 
@@ -78,8 +70,7 @@ class Tried:
                              os.path.join(self.folder, "libstlslice.a"), "-static", "-pthread", *words)
 
     def by_program(self, case, *more):
-        path, words = case
-        return self.room.run(PROGRAM, *words, *more, path=path, text=False)
+        return self.room.run(PROGRAM, *case[1], *more, path=case[0], text=False)
 
     def by_target(self, *words, run=Room.run):
         return run(self.room, *self.RUN, *words, text=False)
@@ -120,8 +111,7 @@ class Tried:
 
     def test_images_pngs_areas_and_loops_are_the_program_s_and_the_native_library_s(self):
         """The target's shared library; the loops are those of the native library, since the program writes none."""
-        beside = os.path.dirname(library())
-        own = self.compiled(["cc"], "answers", self.room.file("own"), os.path.join(beside, "libstlslice.a"))
+        own = self.compiled(["cc"], "answers", self.room.file("own"), os.path.join(os.path.dirname(library()), "libstlslice.a"))
         program = self.compiled(self.CC, "answers", os.path.join(self.folder, "answers.exe"), *self.MORE, f"-L{self.folder}",
                                 "-lstlslice", "-Wl,-rpath,$ORIGIN")
         cases = list(parts(self.room))
@@ -170,16 +160,33 @@ class Arm(Tried, Together):
                 self.room.put(f"stream{number}.box", box.out)
             yield "\t".join([path, stream, str(ran.status), " ".join(words), ran.fault.strip(), array]) + "\n"
 
-    def test_the_wheel_runs_in_debian_s_python(self):
+    def python(self, *words):
+        """What Debian's Python says, with the wheel."""
         if not os.path.exists(PYTHON):
             skip("missing: Debian's Python for arm64 (tests/install_packages)")
         self.wheel()
         lapack = ":".join(f"/usr/lib/aarch64-linux-gnu/{it}" for it in ("blas", "lapack"))
         within = f"PYTHONPATH={self.room.file('installed')},LD_LIBRARY_PATH={lapack}"
-        told = self.room.out("qemu-aarch64", "-L", PYTHON, f"{PYTHON}/usr/bin/python3", "library/tests/meshes.py",
-                             self.room.put("list", "".join(self.listed())), version(),
-                             env=self.room.with_env(QEMU_SET_ENV=within))
+        return self.room.out("qemu-aarch64", "-L", PYTHON, f"{PYTHON}/usr/bin/python3", *words,
+                             env=self.room.with_env(QEMU_SET_ENV=within, SOURCE_DATE_EPOCH="0"))
+
+    def test_the_wheel_runs_in_debian_s_python(self):
+        told = self.python("library/tests/meshes.py", self.room.put("list", "".join(self.listed())), version())
         assert told.startswith("Python: 3 meshes as bytes, PNGs and arrays"), told
+
+    def test_the_wheel_s_command_makes_the_archives_of_this_machine(self):
+        script = "import sys; sys.argv[0] = 'stlslice-sl1'; from stlslice_commands import sl1; sl1.run()"
+        for place in ("here", "there"):
+            os.mkdir(self.room.file(place))
+        for name in ("bracket", "helical_gear", "supported"):
+            words, archive = ["--printer", "SL1S", example(f"{name}.stl")], f"{name}.sl1"
+            here = self.room.out("commands/stlslice-sl1", *words, self.room.file("here", archive),
+                                 env=self.room.with_env(SOURCE_DATE_EPOCH="0"))
+            there = self.python("-c", script, *words, self.room.file("there", archive))
+            same(there.replace("/there/", "/here/"), here, f"what is said of {archive}")
+            found, wanted = (zipped(self.room.file(place, archive)) for place in ("there", "here"))
+            assert len(wanted) > 100, f"{archive} has {len(wanted)} entries"
+            same(found, wanted, f"entries of {archive}")
 
 
 @needs("cc", "rt", "x86_64-w64-mingw32-gcc", "wine")
@@ -192,15 +199,30 @@ class Windows(Tried, Together):
     @classmethod
     def make_ready(cls, room):
         super().make_ready(room)
-        # Wine's folder lies in the room's home, and is made once. Its server stays, so that none ends as a program begins.
+        # Wine's folder lies in the room's home. Its server stays, so that none ends as a program begins, and holds no pipe.
         room.environment.update(WINEDEBUG="-all", WINEDLLOVERRIDES="mscoree,mshtml,winemenubuilder.exe=")
-        room.run("wineserver", "--persistent")
         cls.addClassCleanup(room.run, "wineserver", "--kill")
-        same(room.run("wine", "cmd", "/c", "exit 3").status, 3, "status of a program under Wine")
+        begun = room.bash("(mkdir ~/.wine; wineserver --persistent=900; wine cmd /c exit 3) > /dev/null 2>&1")
+        same(begun.status, 3, "status of a program under Wine")
 
     def seen(self):
         told = self.room.run("x86_64-w64-mingw32-objdump", "-p", os.path.join(self.folder, self.SHARED)).out
         return re.findall(r"(?m)^\s+\[ *\d+\] (\w+)$", told), re.findall(r"DLL Name: (.*)", told)
+
+    def test_a_program_is_made_with_what_the_zip_has(self):
+        if not os.path.exists(PAGE):
+            skip("the page isn't built (make web)")
+        one, other = (released(self.room, f"copy{it}", it, os.path.join(self.folder, self.SHARED), PAGE) for it in (22, 77))
+        assert bytes_of(one) == bytes_of(other), "other bytes"
+        with zipfile.ZipFile(one) as packed:
+            packed.extractall(self.room.file("unzipped"))
+        folder = self.room.file("unzipped", f"stlslice-{version()}-x86_64-windows")
+        summed = "".join(f"{it}: OK\n" for it in ("stlslice.dll", "libstlslice.dll.a", "stlslice.h", "preview.html"))
+        same(self.room.out("sha256sum", "-c", "SHA256SUMS", cwd=folder), summed, "sha256sum -c")
+        links_hold(folder)
+        source, program = self.room.put("told.c", TELLS_VERSION), os.path.join(folder, "told.exe")
+        self.room.out(*self.CC, source, f"-I{folder}", f"-L{folder}", "-lstlslice", "-o", program)
+        same(int(self.by_target(program, run=Room.out)), number_of(version()), "the version that a program tells")
 
 
 class Beside(Case):

@@ -163,7 +163,7 @@ class Words(Together):
 
 
 ARCHIVE = {"--exposure", "--first-exposure", "--fade", "--material"}
-OF_PAGE = {f"--{it}" for it in "pitch layer rule unit canvas title workers json program help".split()}
+OF_PAGE = {f"--{it}" for it in "pitch layer rule unit canvas title workers json help".split()}
 SL1, PNGS, PAGE, SLABS = (f"stlslice-{it}" for it in ("sl1", "pngs", "page", "slabs"))
 
 

@@ -3,10 +3,10 @@
 
     check.py [REV]
 
-The change is all that differs from where HEAD left REV (HEAD). Each changed crate is proved over what earlier checks kept, and
-the crates above if they see it: anything but the body of a function or a proof. Tried are the edits of the changed crates, their
-tests and those of the crate of tests above them with the fewest libraries, and the tests in tests/ that name a changed file. What
-ships is built if a source of it changed. Files that no step tries are listed.
+The change is all that differs from where HEAD left REV (HEAD). `rt ci` proves each changed crate from nothing, with its edits and
+tests, and the crates above if they see the change: anything but the body of a function or a proof. What passes is kept for the
+gate. The tests of the crate above with the fewest libraries run too, without a proof, and so do those in tests/ that name a
+changed file. What ships is built if a source of it changed. Files that no step tries are listed.
 """
 
 import os
@@ -43,13 +43,13 @@ def of_crates(files, base):
     below = {head.split()[0]: tail.split() for head, _, tail in rows}
     changed = [it for it in below if any(file.startswith(f"crates/{it}/") for file in files)]
     seen = {it.split("/")[1] for it in files if re.match(r"crates/\w+/(src|specs|proofs)/", it) and is_seen_from_above(it, base)}
-    above = [it for it in below if it not in changed and seen & {*below[it]}]
-    print(f"changed crates: {' '.join(changed) or 'none'}; above, since they see the change: {' '.join(above) or 'none'}")
-    tests = sorted((it for it in below if it.endswith("_tests") and {*changed} & {*below[it]}), key=lambda it: len(below[it]))
-    tests = [it for it in below if it in changed and it.endswith("_tests") or it in tests[:1]]
-    return ([(f"proof of {it}", ["rt", "check"], f"crates/{it}") for it in below if it in changed + above]
-            + [("edits", ["rt", "must-fail", *changed], "")] * bool(changed)
-            + [(f"tests of {it}", ["rt", "test"], f"crates/{it}") for it in tests] + [("make", ["make"], "")] * bool(changed))
+    names = [it for it in below if it in changed or seen & {*below[it]}]
+    print(f"changed crates: {' '.join(changed) or 'none'}; with those above that see the change: {' '.join(names) or 'none'}")
+    bodies = {it.split("/")[1] for it in files if re.match(r"crates/\w+/src/", it)}
+    tests = [it for it in below if it.endswith("_tests") and it not in names and bodies & {*below[it]}]
+    tests.sort(key=lambda it: len(below[it]))
+    return ([(f"proofs, edits and tests of {' '.join(names)}", ["rt", "ci", *names], "")] * bool(names)
+            + [(f"tests of {it}", ["rt", "try", "--test"], f"crates/{it}") for it in tests[:1]] + [("make", ["make"], "")] * bool(names))
 
 
 def tests_of(file):
