@@ -29,6 +29,14 @@ BELIEVED = (
     ("believe-box.html", "stlslice.Outcome.box_text", ["stlslice.Outcome.probe_result", "contour.Loops.loops", "geometry.Winding.ray_y"]),
     ("believe-words.html", "task_words.read_words", ["task_words.Words.StandFor", "task_words.Words.options", "task_words.Options.said",
                                                      "task_words.wants_progress", "task_words.WordFault.word_fault_text"]),
+    ("believe-opening.html", "layer_session.Session.open",
+     ["layer_session.Session.IsSessionOf", "layer_session.Session.IsOpenFault", "binary_stl.Binary.IsBinary",
+      "mesh_weld.Balance.IsBalanced", "raster.Placing.placed_grid"]),
+    ("believe-binary.html", "binary_stl.Binary.ReadsBinary",
+     ["binary_stl.Binary.IsFaultOfBinary", "binary_stl.Single.coordinate_of", "micro_num.Micrometres.nearest"]),
+    ("believe-screen.html", "part_on_screen.Screen.IsScreenOf",
+     ["part_on_screen.Turned.turned", "part_on_screen.Pitch.IsPitch", "part_on_screen.Middle.IsGridOn",
+      "part_on_screen.Middle.IsNoGrid"]),
     ("believe-mask.html", "stlslice_c.ask_mask",
      ["stlslice_c.Answers.IsMaskAnswer", "raster.Image.layer_image", "geometry.Winding.ray", "raster.Rule.is_inside"]))
 

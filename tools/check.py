@@ -4,9 +4,9 @@
     check.py [REV]
 
 The change is all that differs from where HEAD left REV (HEAD). `rt ci` proves each changed crate from nothing, with its edits and
-tests, and the crates above if they see the change: anything but the body of a function or a proof. What passes is kept for the
-gate. The tests of the crate above with the fewest libraries run too, without a proof, and so do those in tests/ that name a
-changed file. What ships is built if a source of it changed. Files that no step tries are listed.
+tests, and the crates above if they see the change: anything but a function's body, or a proof that none of them names. What
+passes is kept for the gate. The tests of the crate above with the fewest libraries run too, without a proof, and so do those in
+tests/ that name a changed file. What ships is built if a source of it changed. Files that no step tries are listed.
 """
 
 import os
@@ -14,7 +14,6 @@ import re
 import subprocess
 import sys
 
-PROGRAM = "build/stlslice"
 SHIPS = ("library, wheel and page", ["make", "library", "wheel", "web"], "")
 # a function's head has no blank line and no line that ends in a semicolon; its body's braces have one indentation
 HEAD = r"(?:pub(?:\([\w:]+\))? )?(?:const |unsafe |extern \"C\" )*fn \w(?:(?!.*;$).+\n)*?(?!\s*(?:ensures|requires)\b).*"
@@ -34,7 +33,8 @@ def is_seen_from_above(name, base):
     if name.endswith(".rt"):
         texts = (re.sub(r"(?m)^\s*//.*\n", "", it) for it in (text_of(name), git("show", f"{base}:{name}")))
         return len({BODY.sub(r"\1\2{}", it) for it in texts}) > 1
-    return not re.search(r"/proofs/.*/(Answers|Invariants|Proof)\.antt$", name)
+    module = name.removeprefix("crates/").removesuffix(".antt").replace("/", ".")
+    return "/specs/" in name or bool(git("grep", "-lF", f"Rattle.{module}", "--", "crates", f":!crates/{module.split('.')[0]}"))
 
 
 def of_crates(files, base):
@@ -67,7 +67,7 @@ def main():
     named = {it: tests_of(it) for it in sorted({*told.splitlines()})}
     tests, failed = sorted(set().union(*named.values())), []
     steps = of_crates(named, base) + [SHIPS] * any(it.startswith(("library/", "python/", "include/")) for it in named)
-    steps += [("tests that name a changed file", ["tests/run", PROGRAM, *tests], "")] * bool(tests)
+    steps += [("tests that name a changed file", ["tests/run", "build/stlslice", *tests], "")] * bool(tests)
     print(*(f"no step tries {it}\n" for it in named if not named[it] and not it.startswith("crates/")), sep="", end="")
     for what, words, folder in steps:
         print(f"== {what}", flush=True)
