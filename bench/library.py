@@ -1,6 +1,7 @@
 #!/usr/bin/env python3
 """Times the library beside the program on a mesh made here, a ring of about the given number of facets: what a preview waits
-for, and what a pipeline spends on all layers. And the memory of a mesh that is opened from a text, and from arrays.
+for, and what a pipeline spends on all layers. And the memory of a mesh that is opened from a text, from arrays and from a binary
+file, in a grid and on a screen.
 
     bench/library.py PROGRAM LIBRARY [FACETS]
 
@@ -10,9 +11,11 @@ needs numpy, and for the memory glibc 2.33 or later.
 
 import array
 import ctypes
+import itertools
 import os
 import re
 import resource
+import struct
 import subprocess
 import sys
 import tempfile
@@ -66,16 +69,25 @@ def through_pipe(program, path, shape, numpy):
             numpy.unpackbits(packed, axis=1, count=columns).view(bool)
 
 
+def binary_of(corners):
+    """The binary STL of corners, in millimetres."""
+    facets = zip(*[itertools.chain.from_iterable(corners)] * 9)
+    return bytes(80) + struct.pack("<I", len(corners) // 3) + b"".join(struct.pack("<12fH", 0, 0, 0, *it, 0) for it in facets)
+
+
 def openings(stlslice, text):
-    """What opens a mesh from a text, and what opens it from the arrays of the same facets. The module's copies of the arrays are
-    made here, so what opens takes the library's memory alone."""
+    """What opens a mesh from a text, from the arrays of the same facets, and from their binary file. The module's copies of the
+    arrays are made here, so what opens takes the library's memory alone."""
     known = {}
     found = array.array("I", (known.setdefault(row, len(known)) for row in re.findall(rb"vertex (.*)\n", text)))
-    corners = stlslice._points(stlslice.micrometres([[float(it) for it in row.split()] for row in known]))
-    indices = stlslice._triangles(found)
+    points = [[float(it) for it in row.split()] for row in known]
+    corners, indices = stlslice._points(stlslice.micrometres(points)), stlslice._triangles(found)
+    binary = binary_of([points[k] for k in found])
     options = stlslice._options(SIZES["pitch"], SIZES["layer"], "evenodd", None, "mm", None, 0)
     yield "a text", lambda: stlslice.open(text, **SIZES)
     yield "arrays", lambda: stlslice.Mesh("open_mesh", (*corners[1:], *indices[1:]), options)
+    yield "a binary file", lambda: stlslice.open(binary, **SIZES)
+    yield "a binary file on a screen", lambda: stlslice.open(binary, canvas=(4000, 3200), pitch=(19, 24), layer=100, turn=1)
 
 
 def memory(opens):
@@ -143,7 +155,7 @@ def main():
             print(f"{seconds / whole:8.4f}     {name}")
         for name, count, kept, most in spent_on:
             print(f"{kept / count:8.0f}     bytes a facet of a mesh opened from {name}")
-            print(f"{most / count:8.0f}     bytes a facet that opening takes at most, beside the {name.split()[-1]}")
+            print(f"{most / count:8.0f}     bytes a facet that opening takes at most, beside what it is given")
 
 
 if __name__ == "__main__":

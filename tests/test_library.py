@@ -36,14 +36,14 @@ class Library(Case):
         assert first == self.made("another"), "other bytes"
 
     def test_it_keeps_and_takes_the_memory_that_is_told(self):
-        """Meshes of several sizes, opened from a text and from arrays."""
+        """Meshes of several sizes, opened from a text, arrays and a binary file, and put on a screen."""
         told = r"at most (\d+) bytes a facet, .* takes up to (\d+) bytes a facet, and a mebibyte"
         most, peak = map(int, re.search(told, text_of("docs/embedding.md")).groups())
         env = self.room.with_env(PYTHONPATH=f"{ROOT}/bench:{ROOT}/python", STLSLICE_LIBRARY=library())
         for size in (1000, 20000, 70000):
             told = self.room.out(sys.executable, "-c", MEASURE, str(size), self.room.file("ring.stl"), env=env)
             rows = [row.split(" ", 3) for row in told.splitlines()]
-            same([row[3] for row in rows], ["a text", "arrays"], "what is opened")
+            same([row[3] for row in rows], ["a text", "arrays", "a binary file", "a binary file on a screen"], "what is opened")
             for *numbers, name in rows:
                 facets, kept, taken = map(int, numbers)
                 assert 0 < kept <= most * facets, f"{name} of {facets} facets keeps {kept} bytes"
