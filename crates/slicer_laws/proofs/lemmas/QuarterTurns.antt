@@ -1,20 +1,20 @@
 -- A part and a point that are turned by quarters: which of their rays are the same.
-use Rattle.std.proofs.Common.{◌≡◌, ◌↔◌, ◌⊎◌, inl, inr, ◌+◌, Bool, true, false, cond, ◌&&◌, ◌||◌, List, [], ◌∷◌, map, ℤ, pos, ◌+ℤ◌, ◌-ℤ◌, ◌*ℤ◌, neg_ℤ, ◌≤ℤ◌, ◌<ℤ◌, int_lt, if◌then◌else◌, refl, sym, ◌∙◌, ap, subst, arith}
+use Rattle.std.proofs.Common.{◌≡◌, ◌↔◌, ◌⊎◌, inl, inr, ◌+◌, Bool, true, false, cond, ◌&&◌, ◌||◌, List, [], ◌∷◌, map, ℤ, pos, negsuc, ◌+ℤ◌, ◌-ℤ◌, ◌*ℤ◌, neg_ℤ, ◌<ℤ◌, int_lt, if◌then◌else◌, refl, sym, ◌∙◌, ap, subst, arith}
 use Rattle.std.specs.Prelude.{All, count_by}
 use Rattle.std.specs.Ordering.{int_eq}
 use Rattle.std.proofs.lemmas.Bool.Decides.{Decides-int_eq}
 use Rattle.std.proofs.lemmas.Int.{ints}
 use Rattle.std.proofs.lemmas.List.Elements.{All-head, All-map, All-tail, All-weaker}
 use Rattle.exact_int.proofs.lemmas.Identity.{reads, identity}
-use Rattle.exact_int.proofs.lemmas.Laws.{neg_mul}
-use Rattle.exact_int.proofs.lemmas.Signs.{mul_negative_right, mul_positive, neg_right, sign_cases}
+use Rattle.exact_int.proofs.lemmas.Signs.{neg_right, sign_cases}
 use Rattle.geometry.specs.TieRule.{rises_through}
 use Rattle.geometry.specs.Point.{Point, half_micrometres_of, origin, same}
 use Rattle.geometry.specs.Facet.{Edge, Facet, edge, edges, facet_with, twice}
 use Rattle.geometry.specs.Touch.{Touches}
 use Rattle.geometry.specs.Winding.{hit, hit_y, left, left_x, ray, ray_y, total, turn, turn_of, turn_x, volume, wind, wind_y}
-use Rattle.exact_cut.proofs.lemmas.Hitting.{chosen, not_chosen}
-use Rattle.exact_cut.proofs.lemmas.Quadrants.{ahead_only, taken_none}
+use Rattle.exact_cut.specs.Crossing.{IsUnit, Winding}
+use Rattle.exact_cut.proofs.lemmas.Ahead.{wind_values}
+use Rattle.exact_cut.proofs.lemmas.Quadrants.{ahead_only}
 use Rattle.exact_cut.proofs.lemmas.Rays.{hit-taken, hit_y-taken}
 use Rattle.exact_cut.proofs.lemmas.Shifts.{point_by}
 use Rattle.mesh_weld.specs.Balance.{IsBalanced, half_edge_count}
@@ -31,9 +31,6 @@ use Rattle.part_on_screen.specs.declared.quarters.Quarters.TheVariants.{Zero, On
 use Rattle.part_on_screen.proofs.lemmas.StretchedRays.{rays-stretch, same-test}
 use Rattle.slicer_laws.specs.QuarterTurns.{MissesEdges, is_met}
 use Rattle.slicer_laws.proofs.lemmas.TouchedFacets.{untouched-wind}
-
-neg-neg : (z : ℤ) → neg_ℤ (neg_ℤ z) ≡ z
-neg-neg z = omega (arith, ints)
 
 -- ---- a facet and a point after a quarter turn
 abbrev quarter_facet : Facet → Facet
@@ -154,84 +151,63 @@ x-becomes-y facets c misses =
     one t h = ap (λ (s : Facet). hit_y s (quarter_turned c)) (twice-turned t) ∙ hit_y-turned (twice t) c h
 
 -- ---- the ray along x after the turn goes where the ray along y came from: it crosses what that does not, the other way
-wind-turned : (t : Facet) (x z : ℤ) → wind (quarter_facet t) x z ≡ neg_ℤ (wind_y t x z)
+wind_y-before : (t : Facet) (x z : ℤ) → wind_y t x z ≡ neg_ℤ (wind (quarter_facet t) x z)
 unfolding wind wind_y
-wind-turned t x z = sym (neg-neg (turn_x t.a t.b x z +ℤ turn_x t.b t.c x z +ℤ turn_x t.c t.a x z))
+wind_y-before t x z = refl
 
-no_winding : (w : ℤ) → neg_ℤ w ≡ pos 0 → w ≡ pos 0
-no_winding w e = omega (arith, ints)
+abbrev OtherWay : ℤ → ℤ → Type 0
+OtherWay v w = ahead_only w v ≡ ahead_only (neg_ℤ w) v -ℤ neg_ℤ w
 
--- a product's sign, if the second factor is 0 only with the first
-product-signs : (w v : ℤ) → (v ≡ pos 0 → w ≡ pos 0) → (w ≡ pos 0) ⊎ (pos 0 <ℤ (w *ℤ v)) ⊎ ((w *ℤ v) <ℤ pos 0)
-product-signs w v h = by (sign_cases w) (sign_cases v)
+nothing : (a : ℤ) → a ≡ a -ℤ pos 0
+nothing a = omega (arith, ints)
+
+up-below : (v : ℤ) → v <ℤ pos 0 → OtherWay v (pos 1)
+up-below v h = grind (arith, ints)
+
+up-above : (v : ℤ) → pos 0 <ℤ v → OtherWay v (pos 1)
+up-above v h = grind (arith, ints)
+
+down-below : (v : ℤ) → v <ℤ pos 0 → OtherWay v (negsuc 0)
+down-below v h = grind (arith, ints)
+
+down-above : (v : ℤ) → pos 0 <ℤ v → OtherWay v (negsuc 0)
+down-above v h = grind (arith, ints)
+
+-- a facet is ahead one way or the other
+other-way : (t : Facet) (w v : ℤ) → (w ≡ pos 0) ⊎ Winding t w → (v ≡ pos 0 → w ≡ pos 0) → OtherWay v w
+other-way t w v winding flat = by winding (sign_cases v)
   where
-    swapped : (w v : ℤ) → v *ℤ w ≡ w *ℤ v
-    swapped w v = identity (w ∷ v ∷ []) (search reads depth 40) refl
+    at : (k : ℤ) → w ≡ k → OtherWay v k → OtherWay v w
+    at k e h = subst (OtherWay v) (sym e) h
 
-    both : (w v : ℤ) → neg_ℤ w *ℤ neg_ℤ v ≡ w *ℤ v
-    both w v = identity (w ∷ v ∷ []) (search reads depth 40) refl
+    turned_by : IsUnit w → (v <ℤ pos 0) ⊎ (pos 0 <ℤ v) → OtherWay v w
+    turned_by (inl e) (inl h) = at (pos 1) e (up-below v h)
+    turned_by (inl e) (inr h) = at (pos 1) e (up-above v h)
+    turned_by (inr e) (inl h) = at (negsuc 0) e (down-below v h)
+    turned_by (inr e) (inr h) = at (negsuc 0) e (down-above v h)
 
-    less : (a : ℤ) → a <ℤ pos 0 → pos 0 <ℤ neg_ℤ a
-    less a k = omega (arith, ints)
-
-    by : (w <ℤ pos 0) ⊎ (w ≡ pos 0) ⊎ (pos 0 <ℤ w) → (v <ℤ pos 0) ⊎ (v ≡ pos 0) ⊎ (pos 0 <ℤ v)
-        → (w ≡ pos 0) ⊎ (pos 0 <ℤ (w *ℤ v)) ⊎ ((w *ℤ v) <ℤ pos 0)
-    by (inr (inl e)) k = inl e
-    by (inl a) (inr (inl e)) = inl (h e)
-    by (inr (inr a)) (inr (inl e)) = inl (h e)
-    by (inl a) (inl b) = inr (inl (subst (λ (k : ℤ). pos 0 <ℤ k) (both w v) (mul_positive (neg_ℤ w) (neg_ℤ v) (less w a) (less v b))))
-    by (inl a) (inr (inr b)) = inr (inr (subst (λ (k : ℤ). k <ℤ pos 0) (swapped w v) (mul_negative_right v w b a)))
-    by (inr (inr a)) (inl b) = inr (inr (mul_negative_right w v a b))
-    by (inr (inr a)) (inr (inr b)) = inr (inl (mul_positive w v a b))
-
--- a facet that is ahead one way is not ahead the other way
-other-way : (w v : ℤ) → (v ≡ pos 0 → w ≡ pos 0) → ahead_only (neg_ℤ w) v ≡ ahead_only w v -ℤ w
-other-way w v h = by (product-signs w v h)
-  where
-    taken : (a b w : ℤ) → a ≡ pos 0 → b ≡ w → a ≡ b -ℤ w
-    taken a b w e f = omega (arith, ints)
-
-    left_out : (a b w : ℤ) → a ≡ neg_ℤ w → b ≡ pos 0 → a ≡ b -ℤ w
-    left_out a b w e f = omega (arith, ints)
-
-    not_above : (w v : ℤ) → pos 0 <ℤ (w *ℤ v) → (neg_ℤ w *ℤ v) ≤ℤ pos 0
-    not_above w v k = subst (λ (l : ℤ). l ≤ℤ pos 0) (sym (neg_mul w v)) (less (w *ℤ v) k)
-      where
-        less : (a : ℤ) → pos 0 <ℤ a → neg_ℤ a ≤ℤ pos 0
-        less a k = omega (arith, ints)
-
-    is_above : (w v : ℤ) → (w *ℤ v) <ℤ pos 0 → pos 0 <ℤ (neg_ℤ w *ℤ v)
-    is_above w v k = subst (λ (l : ℤ). pos 0 <ℤ l) (sym (neg_mul w v)) (more (w *ℤ v) k)
-      where
-        more : (a : ℤ) → a <ℤ pos 0 → pos 0 <ℤ neg_ℤ a
-        more a k = omega (arith, ints)
-
-    weaker : (a : ℤ) → a <ℤ pos 0 → a ≤ℤ pos 0
-    weaker a k = omega (arith, ints)
-
-    nothing : (a b w : ℤ) → a ≡ pos 0 → b ≡ pos 0 → w ≡ pos 0 → a ≡ b -ℤ w
-    nothing a b w e f g = omega (arith, ints)
-
-    neg_zero : (w : ℤ) → w ≡ pos 0 → neg_ℤ w ≡ pos 0
-    neg_zero w e = omega (arith, ints)
-
-    by : (w ≡ pos 0) ⊎ (pos 0 <ℤ (w *ℤ v)) ⊎ ((w *ℤ v) <ℤ pos 0) → ahead_only (neg_ℤ w) v ≡ ahead_only w v -ℤ w
-    by (inl e) = nothing _ _ w (taken_none (neg_ℤ w) v (neg_zero w e)) (taken_none w v e) e
-    by (inr (inl k)) = taken _ _ w (not_chosen (neg_ℤ w *ℤ v) (neg_ℤ w) (not_above w v k)) (chosen (w *ℤ v) w k)
-    by (inr (inr k)) = left_out _ _ w (chosen (neg_ℤ w *ℤ v) (neg_ℤ w) (is_above w v k)) (not_chosen (w *ℤ v) w (weaker (w *ℤ v) k))
+    by : (w ≡ pos 0) ⊎ Winding t w → (v <ℤ pos 0) ⊎ (v ≡ pos 0) ⊎ (pos 0 <ℤ v) → OtherWay v w
+    by (inl e) s = at (pos 0) e (nothing (ahead_only (pos 0) v))
+    by (inr k) (inl h) = turned_by k.unit (inl h)
+    by (inr k) (inr (inl e)) = at (pos 0) (flat e) (nothing (ahead_only (pos 0) v))
+    by (inr k) (inr (inr h)) = turned_by k.unit (inr h)
 
 hit-turned : (t : Facet) (c : Point) → ¬ Touches t c → hit (quarter_facet t) (quarter_turned c) ≡ hit_y t c -ℤ wind_y t c.x c.z
 hit-turned t c free =
     hit-taken (quarter_facet t) (quarter_turned c)
-    ∙ (λ i. ahead_only (wind-turned t c.x c.z i) (volume-turned t c i))
-    ∙ other-way (wind_y t c.x c.z) (volume t c) flat
+    ∙ ap (λ v. ahead_only w v) (volume-turned t c)
+    ∙ other-way (quarter_facet t) w (volume t c) (wind_values (quarter_facet t) c.x c.z) flat
+    ∙ (λ i. ahead_only (before i) (volume t c) -ℤ before i)
     ∙ ap (λ h. h -ℤ wind_y t c.x c.z) (sym (hit_y-taken t c))
   where
-    flat : volume t c ≡ pos 0 → wind_y t c.x c.z ≡ pos 0
-    flat e =
-        no_winding (wind_y t c.x c.z)
-        (sym (wind-turned t c.x c.z)
-        ∙ untouched-wind (quarter_facet t) (quarter_turned c) (volume-turned t c ∙ e) (λ h. free (touches-before t c h)))
+    w : ℤ
+    w = wind (quarter_facet t) c.x c.z
+
+    before : neg_ℤ w ≡ wind_y t c.x c.z
+    before = sym (wind_y-before t c.x c.z)
+
+    flat : volume t c ≡ pos 0 → w ≡ pos 0
+    flat e = untouched-wind (quarter_facet t) (quarter_turned c) (volume-turned t c ∙ e) (λ h. free (touches-before t c h))
 
 quarter-ray : (facets : List Facet) (c : Point) → IsBalanced facets → NoneTouches facets c
     → ray (turned_part One facets) (quarter_turned c) ≡ ray facets c
@@ -294,6 +270,9 @@ count-turned facets u v =
 
 abbrev quarter_back : Point → Point
 quarter_back p = record { x = p.y; y = neg_ℤ p.x; z = p.z }
+
+neg-neg : (z : ℤ) → neg_ℤ (neg_ℤ z) ≡ z
+neg-neg z = omega (arith, ints)
 
 there_again : (p : Point) → quarter_turned (quarter_back p) ≡ p
 there_again p = λ i. record { x = neg-neg p.x i; y = p.y; z = p.z }
