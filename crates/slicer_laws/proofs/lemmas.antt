@@ -6,3 +6,6 @@ pub mod Shells
 pub mod Boxes
 pub mod ClosedBoxes
 pub mod BoxesAlongY
+pub mod TouchedFacets
+pub mod QuarterTurns
+pub mod TurnedImages

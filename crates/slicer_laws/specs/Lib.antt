@@ -4,3 +4,4 @@ pub mod Slabs
 pub mod Moves
 pub mod Shells
 pub mod Boxes
+pub mod QuarterTurns

@@ -4,6 +4,7 @@ ghost use Rattle.slicer_laws.specs.Boxes.{BoxRays, BoxRaysAlongY, BoxesAreClosed
 ghost use Rattle.slicer_laws.specs.InsideOut.{KeepsAreas, KeepsImages, RaysAlongYAreNegated, RaysAreNegated};
 ghost use Rattle.slicer_laws.specs.Moves.{AreasMoveAlong, ImagesMoveAlong, RaysAlongYMoveAlong, RaysMoveAlong};
 ghost use Rattle.slicer_laws.specs.Orders.{AreasIgnoreOrder, ImagesIgnoreOrder, RaysAlongYIgnoreOrder, RaysIgnoreOrder};
+ghost use Rattle.slicer_laws.specs.QuarterTurns.{AreasTurn, RaysAlongXBecomeY, RaysAlongYTurn, RaysStandOnScreens, RaysTurn, TurnedPartsAreClosed, VoxelsTurn};
 ghost use Rattle.slicer_laws.specs.Shells.{AreasAdd, PositiveAreasAdd, PositiveVoxelsJoin, RaysAdd, RaysAlongYAdd, VoxelsJoin};
 ghost use Rattle.slicer_laws.specs.Slabs.{LowerAreasStay, LowerPartsAreGrids, PlanesStay, SlabsJoin, UpperAreasStay, UpperPartsAreGrids};
 
@@ -42,6 +43,20 @@ pub fn moved_together()
     ensures rays_along_y { RaysAlongYMoveAlong }
     ensures images { ImagesMoveAlong }
     ensures areas { AreasMoveAlong }
+{}
+
+/// A part that is turned by quarters, counterclockwise from above, is closed exactly if it was. A ray along x becomes one along
+/// y, with the same crossings if its line meets no edge. If the part is closed and no facet touches a centre, both rays from
+/// the turned centre are those from the centre, also on a screen, where the part is stretched too. So its voxel in the turned
+/// grid is filled exactly if it was. A centre on a facet may differ: a box holds its near faces, and not its far ones.
+pub fn turned_by_quarters()
+    ensures x_becomes_y { RaysAlongXBecomeY }
+    ensures closed { TurnedPartsAreClosed }
+    ensures rays { RaysTurn }
+    ensures rays_along_y { RaysAlongYTurn }
+    ensures on_screen { RaysStandOnScreens }
+    ensures voxels { VoxelsTurn }
+    ensures areas { AreasTurn }
 {}
 
 /// A ray of two meshes together is the sum of their rays. Take a voxel that is not filled by both meshes. Both together fill it

@@ -6,6 +6,7 @@
 //! - [`any_order`]: the order of the facets makes no difference.
 //! - [`slabs_join`]: a grid may be sliced in two parts, one above the other, each by itself.
 //! - [`moved_together`]: where mesh and grid lie makes no difference, so long as they move together.
+//! - [`turned_by_quarters`]: the images of a closed part turn with it, but for centres that lie on a facet.
 //! - [`shells_add`]: shells that fill no voxel in common fill together what each fills.
 //! - [`box_is_half_open`]: a box holds its near faces and not its far ones, so two boxes side by side share no voxel and
 //!   leave none out between them.
@@ -19,5 +20,6 @@
 mod laws;
 
 pub use laws::{
-    any_order, box_is_half_open, moved_together, shells_add, slabs_join, turned_inside_out,
+    any_order, box_is_half_open, moved_together, shells_add, slabs_join, turned_by_quarters,
+    turned_inside_out,
 };

@@ -43,7 +43,7 @@ area-from g rule facets m k =
     λ n. sum_by (λ j. count_by (λ i. is_filled rule facets (centre-from m g i j k n)) (below g.columns)) (below g.rows)
 
 -- ---- layers
-range-split : (a m n : ℕ) → range_with_len a (m + n) ≡ range_with_len a m ++ range_with_len (a + m) n
+pub range-split : (a m n : ℕ) → range_with_len a (m + n) ≡ range_with_len a m ++ range_with_len (a + m) n
 range-split a zero n = rw (zero_plus n, plus_zero a)
   where
     zero_plus : (n : ℕ) → 0 + n ≡ n
