@@ -46,7 +46,7 @@ impl<'m, A: Allocator + Copy + Send + Sync> Slicer<'m, A> {
         Ok(Slicer {
             alloc,
             job,
-            linker: Linker::new(alloc, job.solid())?,
+            linker: Linker::new(alloc),
             filler: Filler::new(alloc),
             sweep: None,
         })

@@ -3,7 +3,7 @@
 //!
 //! ```text
 //! let mut sweep = Sweep::start(alloc, &solid, heights[0])?;
-//! let mut linker = Linker::new(alloc, &solid)?;
+//! let mut linker = Linker::new(alloc);
 //! for z2 in heights {
 //!     sweep.advance(*z2)?;
 //!     let list = sweep.segments()?;
@@ -24,6 +24,7 @@
 #![tactic(auto)]
 
 mod active;
+mod edge_table;
 mod laws;
 mod linker;
 mod loop_list;

@@ -1,6 +1,7 @@
-//! Linking finds the loops of a plane's segments in time linear in their number. A slot is a position in the plane's list. The
-//! segments that start at an edge form a linked list:
-//! - `heads[e]` is the slot of the first segment that starts at the edge `e`;
+//! Linking finds the loops of a plane's segments in time and memory of their number, however large the mesh is. So the edges at
+//! which they start and end get numbers of their own, by an `EdgeTable`. A slot is a position in the plane's list. The segments
+//! that start at an edge form a linked list:
+//! - `heads[e]` is the slot of the first segment that starts at the edge with the number `e`;
 //! - `after[i]` is the slot of the next segment that starts at the same edge as that in slot `i`;
 //! - [`NONE`] is the end of a list.
 //!
@@ -9,13 +10,13 @@
 ghost use Rattle.std.specs.Prelude.{[], ◌++◌, true, false, ◌≡◌, ◌<◌, ◌≤◌, ℕ, ℤ, All, List, IfOk, OnOk, length, slice_index_or};
 ghost use Rattle.exact_int.specs.Bounds.{IsAtMost};
 ghost use Rattle.mesh_weld.specs.Balance.{IsBalanced};
-ghost use Rattle.mesh_weld.specs.EdgeNumbers.{AreEdgeNumbers};
 ghost use Rattle.plane_segments.specs.Segment.{HasOrderedNodes, segments};
 ghost use Rattle.contour.specs.Loops.{AreLoops, loops};
-ghost use Rattle.contour.specs.Linker.{AreLinks, AreSegmentEdges, ArePopped, AreTraced, HasFirsts, HasLeft, HasNexts, InFacetOrder, IsClear, IsTracedLoop, KeepsLoopsWhole, edge_at_node, is_visited};
+ghost use Rattle.contour.specs.Linker.{AreLinks, AreRenumbered, AreSegmentEdges, ArePopped, AreTraced, HasFirsts, HasLeft, HasNexts, InFacetOrder, IsClear, IsTracedLoop, KeepsLoopsWhole, edge_at_node, is_visited};
 ghost use Rattle.contour.specs.declared.linker.TheConstants.{NONE};
 ghost use Rattle.geometry.specs.declared.limits.TheConstants.{CENTRE_LIMIT, FACET_LIMIT};
 
+use crate::edge_table::EdgeTable;
 use crate::loop_list::Loops;
 use mesh_weld::Solid;
 use plane_segments::{Node, Segment};
@@ -25,37 +26,30 @@ use std::marker::Model;
 /// The slot of no segment.
 const NONE: u32 = u32::MAX;
 
-/// Links the segments of planes into loops. Between two planes no edge has a first segment in `heads`. All other lists are
-/// filled anew for each plane, and are kept only for their memory.
+/// Links the segments of planes into loops. Its lists are filled anew for each plane, and are kept only for their memory.
 #[derive(Drop)]
 pub struct Linker<A: Allocator> {
     alloc: A,
-    heads: Vec<u32, A>,
     links: Links<A>,
     visited: Vec<bool, A>,
     ends: Vec<usize, A>,
 }
 
 impl<A: Allocator> Model for Linker<A> {
-    ghost use Rattle.contour.specs.Linker.{IsClear};
-
     ghost Value = { Unit {0} };
 
     ghost view = { λ l. tt };
-
-    ghost invariant = { λ l. IsClear l.heads.items };
 }
 
 impl<A: Allocator + Copy + Send + Sync> Linker<A> {
-    /// A linker with memory for the edges of this mesh; [`Linker::loops`] takes any mesh. `Err` only if an allocation failed.
-    pub fn new(alloc: A, s: &Solid<A>) -> Result<Linker<A>, AllocError> {
-        Ok(Linker {
+    /// A linker that has linked nothing. It allocates no memory.
+    pub fn new(alloc: A) -> Linker<A> {
+        Linker {
             alloc,
-            heads: vec![in alloc; NONE; s.edge_count() as usize]?,
             links: Links::new(alloc),
             visited: Vec::new(alloc),
             ends: Vec::new(alloc),
-        })
+        }
     }
 
     /// The loops of the segments of one plane; `list` is the mesh's segments at some height. Each loop is a closed cycle: each
@@ -70,29 +64,10 @@ impl<A: Allocator + Copy + Send + Sync> Linker<A> {
     {
         // wakes the invariant: the corners of each kept facet are distinct
         let _facets = s.count();
-        make_room(self.alloc, &mut self.heads, s)?;
-        self.links.fill(s, list, self.heads.as_mut_slice())?;
+        self.links.fill(s, list)?;
         let next = self.links.next.as_slice();
         trace_loops(self.alloc, list, next, &mut self.visited, &mut self.ends)
     }
-}
-
-/// Makes room for the edges of a mesh.
-fn make_room<A: Allocator + Copy + Send + Sync>(
-    alloc: A,
-    heads: &mut Vec<u32, A>,
-    s: &Solid<A>,
-) -> Result<(), AllocError>
-    requires { IsClear heads.old.items }
-    ensures room { OnOk result ((numbers : List (List ℕ)) (count : ℕ) → AreEdgeNumbers s.now.facets numbers count
-        → count ≤ length heads.new.items) }
-    ensures clear { IsClear heads.new.items }
-{
-    let count = s.edge_count() as usize;
-    if heads.len() < count {
-        *heads = vec![in alloc; NONE; count]?;
-    }
-    Ok(())
 }
 
 /// The number of segments. There is at most one for each kept facet, so that slots fit `u32`.
@@ -110,6 +85,8 @@ fn slot_count<A: Allocator>(s: &Solid<A>, list: &[Segment]) -> u32
 #[derive(Drop)]
 struct Links<A: Allocator> {
     edges: SegmentEdges<A>,
+    table: EdgeTable<A>,
+    heads: Vec<u32, A>,
     after: Vec<u32, A>,
     next: Vec<u32, A>,
 }
@@ -125,23 +102,26 @@ impl<A: Allocator> Links<A> {
                 starts: Vec::new(alloc),
                 finishes: Vec::new(alloc),
             },
+            table: EdgeTable::new(alloc),
+            heads: Vec::new(alloc),
             after: Vec::new(alloc),
             next: Vec::new(alloc),
         }
     }
 
     /// Links the segments of a plane: at each node, the n-th that ends there is followed by the n-th that starts there.
-    fn fill(&mut self, s: &Solid<A>, list: &[Segment], heads: &mut [u32]) -> Result<(), AllocError>
-        requires list { (z : ℤ) × (list.now ≡ segments s.now.facets z) }
-        requires room { (numbers : List (List ℕ)) (count : ℕ) → AreEdgeNumbers s.now.facets numbers count → count ≤ length heads.old }
-        requires clear { IsClear heads.old }
-        ensures links { OnOk result (AreLinks list.now self.new.next.items) }
-        ensures clear { IsClear heads.new }
+    fn fill(&mut self, s: &Solid<A>, list: &[Segment]) -> Result<(), AllocError>
+        requires { (z : ℤ) × (list.now ≡ segments s.now.facets z) }
+        ensures { OnOk result (AreLinks list.now self.new.next.items) }
     {
-        self.edges.fill(s, list)?;
         let count = slot_count(s, list) as usize;
+        self.edges.fill(s, list)?;
+        self.edges.renumber(&mut self.table)?;
+        self.heads.clear();
+        self.heads.resize(self.table.edges.len(), NONE)?;
         self.after.resize(count, NONE)?;
         self.next.resize(count, NONE)?;
+        let heads = self.heads.as_mut_slice();
         let after = self.after.as_mut_slice();
         push_starts(heads, &self.edges, after);
         pop_starts(heads, &self.edges, after, self.next.as_mut_slice());
@@ -173,6 +153,19 @@ impl<A: Allocator> SegmentEdges<A> {
             self.starts.push(start)?;
             self.finishes.push(finish)?;
         }
+        Ok(())
+    }
+
+    /// Replaces the numbers, which are those of the mesh, by the numbers of the edges in a table. The table is filled anew.
+    fn renumber(&mut self, table: &mut EdgeTable<A>) -> Result<(), AllocError>
+        requires starts { length self.old.starts.items ≤ FACET_LIMIT }
+        requires finishes { length self.old.finishes.items ≤ FACET_LIMIT }
+        ensures { OnOk result (AreRenumbered self.old.starts.items self.old.finishes.items table.new.edges.items
+            self.new.starts.items self.new.finishes.items) }
+    {
+        table.clear(2 * self.starts.len() + 1)?;
+        table.number_all(self.starts.as_mut_slice())?;
+        table.number_all(self.finishes.as_mut_slice())?;
         Ok(())
     }
 }
@@ -330,5 +323,5 @@ pub fn loops<A: Allocator + Copy + Send + Sync>(
     ensures loops { IfOk result (λ found. found ≡ loops list.items) }
     ensures ordered { IfOk result (All (All HasOrderedNodes)) }
 {
-    Linker::new(alloc, s)?.loops(s, list.as_slice())
+    Linker::new(alloc).loops(s, list.as_slice())
 }

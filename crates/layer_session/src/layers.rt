@@ -45,7 +45,7 @@ pub(crate) fn layer_loops<A: Allocator + Copy + Send + Sync>(
     ensures ordered { IfOk result (All (All HasOrderedNodes)) }
 {
     let list = segments_of_layer(alloc, job, k)?;
-    Linker::new(alloc, job.solid())?.loops(job.solid(), list.as_slice())
+    Linker::new(alloc).loops(job.solid(), list.as_slice())
 }
 
 /// The loops of layer k of a job as points.

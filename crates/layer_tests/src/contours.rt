@@ -124,10 +124,7 @@ fn are_counts_of_cubes(alloc: Global, planes: &[(u8, usize)]) -> bool {
     let Ok(solid) = solid_of(alloc, TWO_CUBES) else {
         return false;
     };
-    match Linker::new(alloc, &solid) {
-        Ok(mut linker) => are_counts(alloc, &mut linker, &solid, planes),
-        Err(_) => false,
-    }
+    are_counts(alloc, &mut Linker::new(alloc), &solid, planes)
 }
 
 static COUNTS: [(u8, usize); 4] = [(2, 1), (6, 2), (12, 0), (10, 1)];
@@ -258,10 +255,7 @@ fn count_linked<A: Allocator + Copy + Send + Sync>(
     let Ok(solid) = solid_of(alloc, parts) else {
         return None;
     };
-    match Linker::new(alloc, &solid) {
-        Ok(mut linker) => count_again(alloc, &mut linker, &solid, z2, is_again),
-        Err(_) => None,
-    }
+    count_again(alloc, &mut Linker::new(alloc), &solid, z2, is_again)
 }
 
 struct OneLoop;

@@ -4,7 +4,7 @@ use Rattle.std.specs.Prelude.{Option, ℤ, filter_map, find, count_by, int_le, i
 use Rattle.std.specs.List.{enumerate_from, cons_option}
 use Rattle.std.proofs.lemmas.Int.{ints}
 use Rattle.std.proofs.lemmas.Bool.{cases_lt, eqb-true, eq-eqb, ne_eqb, or_cases, or_left, or_right, true≢false}
-use Rattle.geometry.specs.Point.{Point, origin, same}
+use Rattle.geometry.specs.Point.{Point, origin}
 use Rattle.geometry.specs.Facet.{Facet, facet_with, Edge, edge, edges, half_edges}
 use Rattle.mesh_weld.specs.Balance.{IsBalanced, half_edge_count}
 use Rattle.mesh_weld.specs.Solid.{vertices, number_of, facet_at}

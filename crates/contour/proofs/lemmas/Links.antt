@@ -1,7 +1,7 @@
 -- The edges of the segments of a height: their numbers are below the count, and what the solid's arrays hold of them.
-use Rattle.std.proofs.Common.{◌≡◌, ℕ, ◌+◌, ◌*◌, ◌^◌, ◌<◌, ◌≤◌, ◌++◌, Bool, true, false, cond, List, [], ◌∷◌, sym, ◌∙◌, ap, subst, length, get_or, take, arith, map}
+use Rattle.std.proofs.Common.{◌≡◌, ℕ, ◌+◌, ◌*◌, ◌^◌, ◌<◌, ◌++◌, Bool, true, false, cond, List, [], ◌∷◌, sym, ◌∙◌, ap, subst, length, get_or, take, arith, map}
 use Rattle.std.specs.Prelude.{All}
-use Rattle.std.proofs.lemmas.List.{get_or_default, get_or-map, length-map, map_more}
+use Rattle.std.proofs.lemmas.List.{get_or_default, length-map, map_more}
 use mir.Syntax.{w64}
 use mir.Val.{Fits}
 use Rattle.geometry.specs.Facet.{Facet, corners}
@@ -11,7 +11,6 @@ use Rattle.plane_segments.specs.Node.{Node, is_node}
 use Rattle.plane_segments.specs.declared.segment.Segment.{Segment}
 use Rattle.plane_segments.specs.Segment.{edge_node}
 use Rattle.contour.specs.Linker.{AreSegmentEdges, edge_at_node, edge_of_facet, start_edge, finish_edge}
-use Rattle.geometry.specs.declared.limits.TheConstants.{FACET_LIMIT}
 
 -- numbers of edges are below their count
 module _ (facets : List Facet) (numbers : List (List ℕ)) (count : ℕ) (numbered : AreEdgeNumbers facets numbers count) where
@@ -24,33 +23,12 @@ module _ (facets : List Facet) (numbers : List (List ℕ)) (count : ℕ) (number
       by_tests false true = numbered.below facet 1 h (omega arith)
       by_tests false false = numbered.below facet 2 h (omega arith)
 
-pub segment_edges-below : (facets : List Facet) (list : List Segment) (starts finishes : List ℕ) (count : ℕ) → AreSegmentEdges facets list starts finishes
-    → ((numbers : List (List ℕ)) (n : ℕ) → AreEdgeNumbers facets numbers n → n ≤ count)
-    → All (λ t. t.facet < length facets) list → (All (λ e. e < count) starts) × (All (λ e. e < count) finishes)
-segment_edges-below facets list starts finishes count p counted within = (
-  below (start_edge facets p.numbers) starts (λ s h. edge_below facets p.numbers p.count p.numbered s.facet s.from h) p.starts_are,
-  below (finish_edge facets p.numbers) finishes (λ s h. edge_below facets p.numbers p.count p.numbered s.facet s.to h) p.finishes_are,
-)
-  where
-    some_segment : Segment
-    some_segment = record { facet = 0; from = record { low = 0; high = 0 }; to = record { low = 0; high = 0 } }
-
-    below : (f : Segment → ℕ) (es : List ℕ) → ((s : Segment) → s.facet < length facets → f s < p.count) → es ≡ map f list → All (λ e. e < count) es
-    below f es h e k d l =
-        let short : k < length list = omega (arith, l, ap length e, length-map list f) in
-        let at : get_or es k d ≡ f (get_or list k some_segment) = ap (λ xs. get_or xs k d) e ∙ get_or-map f list k some_segment d short in
-        let small : f (get_or list k some_segment) < p.count = h (get_or list k some_segment) (within k some_segment short) in
-        omega (arith, at, small, counted p.numbers p.count p.numbered)
-
 pub segment_edges-length : (facets : List Facet) (list : List Segment) (starts finishes : List ℕ) → AreSegmentEdges facets list starts finishes
     → (length starts ≡ length list) × (length finishes ≡ length list)
 segment_edges-length facets list starts finishes p =
     (ap length p.starts_are ∙ length-map list (start_edge facets p.numbers), ap length p.finishes_are ∙ length-map list (finish_edge facets p.numbers))
 
 -- ---- what the solid's arrays hold of the mesh
-pub few-fits : (n : ℕ) → n ≤ FACET_LIMIT → Fits w64 n
-few-fits n h = record { fits = omega arith }
-
 pub offset-fits : (i n : ℕ) → i < n → n * 12 < 2 ^ 63 → Fits w64 (i * 12)
 offset-fits i n h k = record { fits = omega arith }
 
