@@ -51,6 +51,13 @@ is_box (task.Slice unit pitch layer rule workers report grid) = false
 is_box (task.Png unit pitch layer rule workers grid depth mirrors) = false
 is_box (task.Probe unit pitch layer grid i j k) = false
 
+-- the task is slicing
+abbrev pub is_slicing : Task → Bool
+is_slicing (task.Box unit) = false
+is_slicing (task.Slice unit pitch layer rule workers report grid) = true
+is_slicing (task.Png unit pitch layer rule workers grid depth mirrors) = true
+is_slicing (task.Probe unit pitch layer grid i j k) = false
+
 -- the two rays at a voxel
 abbrev pub probe_text : Grid → List Facet → ℕ → ℕ → ℕ → List ℕ
 probe_text g facets i j k =

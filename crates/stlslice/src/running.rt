@@ -1,7 +1,7 @@
 //! A run: reads the whole input, does the task, writes its outcome.
-ghost use Rattle.std.specs.Prelude.{◌≡◌, Err, IfErr, IfOk, Ok};
+ghost use Rattle.std.specs.Prelude.{◌≡◌, Err, IfErr, IfOk, Ok, true};
 ghost use Rattle.devices.specs.Transcript.{transcript_of};
-ghost use Rattle.stlslice.specs.Outcome.{grid_for, placing_of, slicing};
+ghost use Rattle.stlslice.specs.Outcome.{grid_for, is_slicing, placing_of, slicing};
 ghost use Rattle.stlslice.specs.Run.{IsRun};
 ghost use Rattle.stlslice.specs.declared.run_fault.RunFault.TheVariants as run_fault;
 ghost use Rattle.raster.specs.declared.grid.GridFault.{GridFault};
@@ -95,46 +95,8 @@ pub fn run_watched<
             };
             run_probe(alloc, probe, source, sink)
         }
-        Task::Slice {
-            unit,
-            pitch,
-            layer,
-            rule,
-            workers,
-            report,
-            grid,
-        } => {
-            let slicing = Slicing {
-                unit,
-                pitch,
-                layer,
-                given: grid,
-                rule,
-                output: Output::of(report),
-                workers,
-            };
-            run_slicing(rt, alloc, slicing, source, sink, gate)
-        }
-        Task::Png {
-            unit,
-            pitch,
-            layer,
-            rule,
-            workers,
-            grid,
-            depth,
-            mirrors,
-        } => {
-            let slicing = Slicing {
-                unit,
-                pitch,
-                layer,
-                given: grid,
-                rule,
-                output: Output::Pngs { depth, mirrors },
-                workers,
-            };
-            run_slicing(rt, alloc, slicing, source, sink, gate)
+        Task::Slice { .. } | Task::Png { .. } => {
+            run_slicing(rt, alloc, Slicing::of(task), source, sink, gate)
         }
     }
 }
@@ -149,6 +111,53 @@ struct Slicing {
     rule: Rule,
     output: Output,
     workers: u32,
+}
+
+impl Slicing {
+    /// What a task of slicing asks for.
+    fn of(task: &Task) -> Slicing
+        requires { is_slicing task.now ≡ true }
+        ensures { slicing result.unit result.pitch result.layer result.rule result.workers result.given result.output ≡ task.now }
+    {
+        match *task {
+            Task::Slice {
+                unit,
+                pitch,
+                layer,
+                rule,
+                workers,
+                report,
+                grid,
+            } => Slicing {
+                unit,
+                pitch,
+                layer,
+                given: grid,
+                rule,
+                output: Output::of(report),
+                workers,
+            },
+            Task::Png {
+                unit,
+                pitch,
+                layer,
+                rule,
+                workers,
+                grid,
+                depth,
+                mirrors,
+            } => Slicing {
+                unit,
+                pitch,
+                layer,
+                given: grid,
+                rule,
+                output: Output::Pngs { depth, mirrors },
+                workers,
+            },
+            Task::Box { .. } | Task::Probe { .. } => unreachable!(),
+        }
+    }
 }
 
 /// A task of a probe. Lengths are in micrometres, and the voxel is given by its column, row and layer.

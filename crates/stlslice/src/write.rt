@@ -1,5 +1,5 @@
-//! What a run writes. Each output has a module of its own, and all are flushed by [`flush`]. For several workers `images_by` and
-//! `pngs_by` draw by [`pages`]. This module chooses among the outputs of slicing.
+//! What a run writes. Each output has a module of its own, and all are flushed by [`flush`]. For several workers `image_pages` and
+//! `png_pages` draw by [`pages`]. This module chooses among the outputs of slicing.
 ghost use Rattle.std.specs.Prelude.{◌≡◌};
 ghost use Rattle.devices.specs.Transcript.{transcript_of};
 ghost use Rattle.stlslice.specs.SlicedText.{output_of, sliced_text};
@@ -9,18 +9,16 @@ pub(crate) mod box_line;
 pub(crate) mod flush;
 pub(crate) mod image_pages;
 pub(crate) mod images;
-pub(crate) mod images_by;
 pub(crate) mod pages;
 pub(crate) mod png_pages;
 pub(crate) mod pngs;
-pub(crate) mod pngs_by;
 pub(crate) mod probe_line;
 pub(crate) mod report;
 
 use crate::run_fault::RunFault;
 use crate::write::flush::write_all;
-use crate::write::images_by::write_images_by;
-use crate::write::pngs_by::write_pngs_by;
+use crate::write::image_pages::write_images_by;
+use crate::write::png_pages::write_pngs_by;
 use crate::write::report::report;
 use build_book::Build;
 use devices::Sink;

@@ -1,15 +1,15 @@
 -- Images that are drawn into pages: which bytes they have, and how many.
-use Rattle.std.proofs.Common.{◌≡◌, ℕ, zero, suc, ◌+◌, ◌*◌, ◌-◌, ◌<◌, ◌≤◌, List, [], ◌∷◌, ◌++◌, max, min, length, length-append, append_assoc, ap, sym, ◌∙◌, arith, refl, slice_index_or, drop, subst, Option}
-use Rattle.std.specs.Prelude.{Bool, false, Ok, flat_map}
+use Rattle.std.proofs.Common.{◌≡◌, ℕ, zero, suc, ◌+◌, ◌*◌, ◌-◌, ◌<◌, ◌≤◌, List, [], ◌∷◌, ◌++◌, max, min, length, append_assoc, ap, sym, ◌∙◌, arith, refl, slice_index_or, drop, subst, ◌^◌, Option, Some}
+use Rattle.std.specs.Prelude.{Bool, false, Err, IfOk, Ok, Result, SomeIff, flat_map}
+use Rattle.std.specs.Result.{result_ok}
 use Rattle.std.specs.List.{All, range_with_len}
 use Rattle.std.proofs.lemmas.List.Concat.{flat_map-cons}
 use Rattle.std.proofs.Math.Seq.{drop-cons}
 use Rattle.std.proofs.Math.Nat.{mul-le-mul_left}
 use Rattle.raster.proofs.lemmas.Written.{IsUnderWay, all-counted, begun}
 use Rattle.devices.specs.Devices.{greatest_count}
-use Rattle.raster.specs.Grid.{Grid, IsGrid, centre}
-use Rattle.raster.specs.Filler.{is_filled}
-use Rattle.raster.specs.Image.{image_of_pixels, images_limit, layer_image}
+use Rattle.raster.specs.Grid.{Grid, IsGrid}
+use Rattle.raster.specs.Image.{image_of_pixels, images_limit}
 use Rattle.raster.proofs.lemmas.Images.{length-image, small-images}
 use Rattle.devices.specs.Transcript.{transcript}
 use Rattle.build_book.specs.Job.{Job}
@@ -60,20 +60,6 @@ pub length-is : (g : Grid) (pixel : ℕ → ℕ → Bool) → length (image_of_p
 unfolding image_size
 length-is g pixel = length-image g.columns g.rows pixel ∙ sym (length-image g.columns g.rows (λ i j. false))
 
-length-parts : (f : ℕ → List ℕ) (size a n : ℕ) → ((k : ℕ) → length (f k) ≡ size) → length (flat_map f (range_with_len a n)) ≡ n * size
-length-parts f size a zero each = omega arith
-length-parts f size a (suc n) each =
-    let both : length (flat_map f (a ∷ range_with_len (a + 1) n)) ≡ length (f a) + length (flat_map f (range_with_len (a + 1) n)) =
-    ap (λ (l : List ℕ). length l) (flat_map-cons f a (range_with_len (a + 1) n))
-    ∙ length-append (f a) (flat_map f (range_with_len (a + 1) n)) in
-    omega (arith, both, each a, length-parts f size (a + 1) n each)
-
-length-between : (job : Job) (a b : ℕ)
-    → length (images_between (layer_image job.grid job.rule job.solid.facets) a b) ≡ (b - a) * image_size job.grid
-length-between job a b =
-    length-parts (layer_image job.grid job.rule job.solid.facets) (image_size job.grid) a (b - a)
-    (λ k. length-is job.grid (λ i j. is_filled job.rule job.solid.facets (centre job.grid i j k)))
-
 -- Pages that are drawn: page k has the images of up to `per` layers, after those of the pages before it. There are n layers.
 pub pages-drawn : {P : Type 0} (bytes : P → List ℕ) (f : ℕ → List ℕ) (n per first : ℕ) (pages : List P) → first ≤ n
     → ((k : ℕ) (d : P) → k < length pages
@@ -112,6 +98,17 @@ page-next bytes pages k page h is =
     ∙ ap (λ p. bytes p ++ flat_map bytes (drop (suc k) pages)) (sym is)
     ∙ ap (λ (n : ℕ). bytes page ++ flat_map bytes (drop n pages)) next
 
+-- what holds of the pages that were made
+pub of-made : {T E : Type 0} (P : T → Type 0) (r : Result T E) (x : T) → Some x ≡ result_ok r → IfOk r P → P x
+of-made P (Ok y) x is h =
+    let same : y ≡ x = cc in
+    subst P same h
+of-made P (Err e) x is h = cc
+
+-- the bytes of `per` images that were counted
+pub product-is : (found : Option ℕ) (product a b : ℕ) → found ≡ Some product → SomeIff found (a * b < 2 ^ 64) (a * b) → product ≡ a * b
+product-is found product a b is h = (subst (λ (o : Option ℕ). SomeIff o (a * b < 2 ^ 64) (a * b)) is h).1
+
 -- pages without images
 blank-text : {P : Type 0} (bytes : P → List ℕ) (pages : List P) → All (λ page. bytes page ≡ []) pages → flat_map bytes pages ≡ []
 blank-text bytes [] h = refl
@@ -129,23 +126,15 @@ all-begun bytes f n now pages none =
     subst (λ (l : List ℕ). IsUnderWay now now (all_images f n) 0 0 l (images_between f 0 n)) (sym (blank-text bytes pages none))
     (subst (λ (l : List ℕ). IsUnderWay now now (all_images f n) 0 0 [] l) same (begun now 0 [] (all_images f n)))
 
-fits : (bytes a b size per room : ℕ) → bytes + a * size ≡ b * size → 1 ≤ a → b ≤ per → per * size ≤ room → bytes + size ≤ room
-fits bytes a b size per room h some few all = omega (arith, h, mul-le-mul_left size some, mul-le-mul_left size few, all)
+-- one image more fits a page that has fewer than `per`
+pub one-more-fits : (m per size len room : ℕ) → len ≤ m * size → m < per → per * size ≤ room → len + size ≤ room
+one-more-fits m per size len room few more all =
+    let rows : size * suc m ≤ size * per = mul-le-mul_left size (omega (arith, more)) in
+    omega (arith, few, all, rows)
 
--- the next image has room in a page
-pub image-fits : (job : Job) (per start k end room : ℕ) (bytes : List ℕ) → start ≤ k → k < end → end ≤ start + per
-    → bytes ++ images_between (layer_image job.grid job.rule job.solid.facets) k end
-    ≡ images_between (layer_image job.grid job.rule job.solid.facets) start end
-    → per * image_size job.grid ≤ room → length bytes + image_size job.grid ≤ room
-image-fits job per start k end room bytes low high few text all =
-    fits (length bytes) (end - k) (end - start) (image_size job.grid) per room both (omega (arith, high)) (omega (arith, few)) all
-  where
-    both : length bytes + (end - k) * image_size job.grid ≡ (end - start) * image_size job.grid
-    both =
-        ap (λ (n : ℕ). length bytes + n) (sym (length-between job k end))
-        ∙ sym (length-append bytes (images_between (layer_image job.grid job.rule job.solid.facets) k end))
-        ∙ ap (λ (l : List ℕ). length l) text
-        ∙ length-between job start end
+-- and is no longer than the others may be
+pub one-more : (m n size old new : ℕ) → n ≡ suc m → old ≤ m * size → new ≤ old + size → new ≤ n * size
+one-more m n size old new next few more = rw next (omega (arith, few, more))
 
 -- the next image is drawn
 pub image-drawn : (f : ℕ → List ℕ) (k end : ℕ) (bytes new image text : List ℕ) → k < end → image ≡ f k → new ≡ bytes ++ image
@@ -183,6 +172,6 @@ fewer-left count first m per end some few h is =
     let one : per * 1 ≤ per * m = mul-le-mul_left per some in
     omega (arith, one, few, h, is)
 
--- a number of images or PNGs of a page
+-- a number of pages, or of the images of one
 pub one_at_least : (m n : ℕ) → n ≡ max m 1 → 0 < n
 one_at_least m n is = omega (arith, is)

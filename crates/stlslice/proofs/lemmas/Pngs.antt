@@ -3,7 +3,6 @@ use Rattle.std.proofs.Common.{◌≡◌, ◌∙◌, ℕ, inl, inr, zero, suc, �
 use Rattle.std.specs.Prelude.{Err, Ok, Result, flat_map, if◌then◌else◌}
 use Rattle.std.specs.List.{range_with_len}
 use Rattle.std.proofs.lemmas.List.Concat.{flat_map-cons}
-use Rattle.std.proofs.Math.Nat.{mul-le-mul_left}
 use Rattle.geometry.specs.BoundingBox.{Bounds, bounds}
 use Rattle.geometry.specs.Facet.{Facet}
 use Rattle.geometry.specs.declared.limits.TheConstants.{COLUMN_LIMIT, LAYER_LIMIT}
@@ -215,13 +214,3 @@ room_at grid taken depth layers xs i x spans room of same spans-are low is h =
     let here : most taken spans ≡ most grid (slice_index_or xs i x).spans =
     ap (λ (g : Grid). most g spans) of ∙ ap (λ (s : List Span). most grid s) (spans-are ∙ ap (λ (y : Layer). y.spans) is) in
     omega (arith, there, here)
-
--- the next of up to `per` PNGs fits
-pub next_fits : (m per room len most taken free : ℕ) → len ≤ m * room → m < per → most ≤ room → per * room ≤ taken → taken ≤ free → len + most ≤ free
-next_fits m per room len most taken free few more small all kept =
-    let rows : room * suc m ≤ room * per = mul-le-mul_left room (omega (arith, more)) in
-    omega (arith, few, small, all, kept, rows)
-
--- and is not too long for those after it
-pub longer : (m n old new most room : ℕ) → n ≡ suc m → old ≤ m * room → new ≤ old + most → most ≤ room → new ≤ n * room
-longer m n old new most room next few more small = rw next (omega (arith, few, more, small))

@@ -9,6 +9,7 @@ use Rattle.mesh_weld.specs.Balance.{IsBalanced}
 use Rattle.mesh_weld.specs.Solid.{Solid, kept_facets, solid_of}
 use Rattle.raster.specs.declared.grid.GridFault.{GridFault}
 use Rattle.raster.specs.declared.rule.Rule.{Rule}
+use Rattle.task_words.specs.Task.{AreInRange, IsInRange}
 use Rattle.task_words.specs.declared.task.Given.{Given}
 use Rattle.task_words.specs.declared.task.Task.{Task}
 use Rattle.task_words.specs.declared.task.Task.TheVariants as task
@@ -38,6 +39,12 @@ closed_there t input text other (open_mesh facets reads shut from to there back 
 closed_there t input text other (closed facets reads shut balanced made) = (facets, reads, balanced, made)
 
 module _ (unit : LengthUnit) (pitch layer : ℕ) (rule : Rule) (workers : ℕ) (given : Option Given) where
+  -- its numbers are in range
+  pub in_range : (out : Output) → IsInRange (slicing unit pitch layer rule workers given out) → AreInRange pitch layer workers
+  in_range output.Images h = h
+  in_range output.Report h = h
+  in_range (output.Pngs depth mirrors) h = h
+
   -- an output of a closed mesh is the outcome
   pub outcome_there : (out : Output) (input : List ℕ) (facets : List Facet) (answer : Result (List ℕ) RunFault) → Reads FACET_LIMIT unit input facets
       → IsBalanced facets → answer ≡ sliced given pitch layer rule out (kept_facets facets)

@@ -1,53 +1,70 @@
-//! Pages that PNGs of several layers are made in.
-ghost use Rattle.std.specs.Prelude.{◌≡◌, ◌<◌, ◌≤◌, ◌+◌, ◌*◌, [], IfOk, vec_capacity};
-ghost use Rattle.stlslice.specs.Pages.{images_between};
-ghost use Rattle.stlslice.specs.Pngs.{HasPngRoom};
-ghost use Rattle.layer_png.specs.Text.{layer_png};
+//! The PNGs of all layers by several workers, which make them in pages, and whether they do.
+ghost use Rattle.std.specs.Prelude.{◌<◌};
+ghost use Rattle.devices.specs.Transcript.{transcript_of};
+ghost use Rattle.stlslice.specs.Pngs.{HasPngRoom, pngs_of};
+ghost use Rattle.stlslice.specs.Writing.{IsMadeAndWritten};
 
-use crate::write::pages::Drawing;
-use crate::write::pngs::add_png;
+use crate::run_fault::RunFault;
+use crate::write::pages::{Drawing, page_sets, share_out, write_by_pages};
+use crate::write::pngs::{add_png, room_for_png, write_pngs};
 use build_book::Build;
+use devices::Sink;
 use layer_png::{Depth, Mirrors};
 use std::alloc::{AllocError, Allocator};
 use std::mem::replace;
+use std::thread::Threads;
 
-/// The PNGs of a build, of which `per` are made in a page. Each has at most `room` bytes.
-#[derive(Drop)]
-pub(crate) struct Pngs<'a, 'b, A: Allocator> {
-    pub(crate) alloc: A,
-    pub(crate) build: &'a Build<'b, A>,
-    pub(crate) depth: Depth,
-    pub(crate) mirrors: Mirrors,
-    pub(crate) room: usize,
-    pub(crate) per: usize,
-    ghost some: { 0 < per },
-    ghost each: { HasPngRoom build.now.job.grid depth build.now.layers room },
-}
+/// The greatest number of bytes of a page, unless one PNG takes more. A worker fills a page in some milliseconds, so the thread
+/// that writes seldom waits.
+const PAGE_LEN: usize = 1 << 20;
 
-impl<'a, 'b, A: Allocator> Pngs<'a, 'b, A> {
-    /// The PNGs of the layers from `start` up to, but not including, `end`, in place of what the memory holds. They fit it, so that
-    /// no memory is allocated.
-    fn made(&self, start: usize, end: usize, mut bytes: Vec<u8, A>) -> Vec<u8, A>
-        requires order { start ≤ end }
-        requires within { end ≤ self.now.build.now.job.grid.layers }
-        requires few { end ≤ start + self.now.per }
-        requires room { self.now.per * self.now.room ≤ vec_capacity bytes }
-        ensures text { result.items ≡ images_between (layer_png self.now.build.now.job.grid self.now.build.now.job.rule
-            self.now.build.now.job.solid.facets self.now.depth self.now.mirrors) start end }
-        ensures capacity { vec_capacity bytes ≤ vec_capacity result }
-    {
-        let grid = self.build.job().grid();
-        let layers = self.build.layers();
-        bytes.clear();
-        for k in start..end {
-            bytes = add_png(bytes, grid, layers[k].spans(), self.depth, self.mirrors);
-        }
-        bytes
+/// The same as [`write_pngs`], for a build by several workers. If rows have many spans, up to `workers` workers make PNGs
+/// at the same time, beside the thread that writes those made before. The memory for that is allocated before the first byte is
+/// written; if there is none, one worker does all.
+pub(crate) fn write_pngs_by<R: Threads + Sync, A: Allocator + Copy + Send + Sync, O: Sink>(
+    rt: &R,
+    alloc: A,
+    build: &Build<'_, A>,
+    depth: Depth,
+    mirrors: Mirrors,
+    workers: u32,
+    sink: &mut O,
+) -> Result<(), RunFault>
+    ensures { IsMadeAndWritten result
+        (transcript_of O.contents O.Failures.failure_count sink.old sink.new)
+        (O.is_settled sink.new) (pngs_of build.now.job depth mirrors) }
+{
+    let size = room_for_png(build, depth);
+    let share = share_out(build, size, PAGE_LEN, workers);
+    let pngs = Pngs {
+        alloc,
+        build,
+        depth,
+        mirrors,
+        size,
+        per: share.per,
+    };
+    match page_sets(alloc, &pngs, share.workers) {
+        Some((drawn, free)) => write_by_pages(rt, &pngs, drawn, free, sink),
+        None => write_pngs(alloc, build, depth, mirrors, sink),
     }
 }
 
+/// The PNGs of a build, of which up to `per` are made in a page. Each has at most `size` bytes.
+#[derive(Drop)]
+struct Pngs<'a, 'b, A: Allocator> {
+    alloc: A,
+    build: &'a Build<'b, A>,
+    depth: Depth,
+    mirrors: Mirrors,
+    size: usize,
+    per: usize,
+    ghost some: { 0 < per },
+    ghost each: { HasPngRoom build.now.job.grid depth build.now.layers size },
+}
+
 impl<'a, 'b, A: Allocator + Copy + Send + Sync> Drawing<Vec<u8, A>> for Pngs<'a, 'b, A> {
-    ghost use Rattle.std.specs.Prelude.{◌≤◌, ◌*◌, vec_capacity};
+    ghost use Rattle.std.specs.Prelude.{vec_capacity};
     ghost use Rattle.layer_png.specs.Text.{layer_png};
 
     ghost layers = { λ it. it.build.now.job.grid.layers };
@@ -56,9 +73,11 @@ impl<'a, 'b, A: Allocator + Copy + Send + Sync> Drawing<Vec<u8, A>> for Pngs<'a,
 
     ghost per = { λ it. it.per };
 
+    ghost size = { λ it. it.size };
+
     ghost bytes = { λ page. page.items };
 
-    ghost fits = { λ it page. it.per * it.room ≤ vec_capacity page };
+    ghost capacity = { λ page. vec_capacity page };
 
     fn layers(&self) -> usize {
         // the limits bound the count of the bytes
@@ -70,28 +89,26 @@ impl<'a, 'b, A: Allocator + Copy + Send + Sync> Drawing<Vec<u8, A>> for Pngs<'a,
         self.per
     }
 
-    fn page(&self) -> Result<Vec<u8, A>, AllocError> {
-        empty_page(self.alloc, self.room, self.per)
+    fn size(&self) -> usize {
+        self.size
     }
 
-    fn draw(&self, start: usize, end: usize, page: &mut Vec<u8, A>) {
+    fn page(&self, room: usize) -> Result<Vec<u8, A>, AllocError> {
+        Vec::with_capacity(self.alloc, room)
+    }
+
+    fn clear(page: &mut Vec<u8, A>) {
+        page.clear();
+    }
+
+    fn add(&self, k: usize, page: &mut Vec<u8, A>) {
+        let grid = self.build.job().grid();
+        let layers = self.build.layers();
         let bytes = replace(page, Vec::new(self.alloc));
-        *page = self.made(start, end, bytes);
+        *page = add_png(bytes, grid, layers[k].spans(), self.depth, self.mirrors);
     }
 
     fn bytes(page: &Vec<u8, A>) -> &[u8] {
         page.as_slice()
-    }
-}
-
-/// An empty page. At least `per` PNGs of `room` bytes fit it.
-fn empty_page<A: Allocator>(alloc: A, room: usize, per: usize) -> Result<Vec<u8, A>, AllocError>
-    ensures blank { IfOk result (λ page. page.items ≡ []) }
-    ensures room { IfOk result (λ page. per * room ≤ vec_capacity page) }
-{
-    match room.checked_mul(per) {
-        Some(len) => Vec::with_capacity(alloc, len),
-        // no memory is that large
-        None => Err(AllocError),
     }
 }

@@ -2,7 +2,7 @@ use Rattle.std.proofs.Common.{◌≡◌, ◌≤◌, ◌<◌, ◌+◌, ◌*◌, �
 use Rattle.std.specs.Prelude.{flat_map, vec_items}
 use Rattle.std.proofs.lemmas.List.Elements.{All-same}
 use Rattle.devices.specs.Transcript.{Transcript, transcript_of}
-use Rattle.stlslice.specs.Pages.{all_images, images_between}
+use Rattle.stlslice.specs.Pages.{Holds, all_images, images_between}
 use Rattle.stlslice.proofs.lemmas.Pages.{all-begun, fewer-left, next-counted, no-images, set-out}
 use Rattle.stlslice.proofs.lemmas.Put.{put-early, put-last}
 use Rattle.stlslice.proofs.write.pages.put_by_pages.Goals as goal
@@ -23,8 +23,8 @@ loop-first-init g c =
 
 pub loop-first-smaller : goal.loop-first-smaller
 loop-first-smaller g c =
-    fewer-left c.layers-count.result c.loop-first.first (vec_len c.loop-first.free) c.per-per.result c.end_of_set-end.result
-    c.loop-first.invariant.some_free (omega (arith, c.per-per.ensures.value, c.per-per.ensures.some)) c.loop-first-test.true c.end_of_set-end.ensures
+    fewer-left c.layers-count.result c.loop-first.first (vec_len c.loop-first.free) c.per-per.result c.start_of_page-end.result
+    c.loop-first.invariant.some_free (omega (arith, c.per-per.ensures.value, c.per-per.ensures.some)) c.loop-first-test.true (rw c.len.ensures at c.start_of_page-end.ensures)
 
 pub draw_and_put-requires-clause-low : goal.draw_and_put-requires-clause-low
 draw_and_put-requires-clause-low g c κs within = c.loop-first.invariant.low
@@ -51,24 +51,25 @@ loop-first-preserved g c =
     let n = it.layers c.args.drawing.now in
     let at = c.loop-first in
     let inv = c.loop-first.invariant in
+    let fits = Holds it.capacity (it.per c.args.drawing.now) (it.size c.args.drawing.now) in
     let out = c.in_ok-written.ensures in
     let drawn = c.swap.ensures.x_after in
     let free = c.swap.ensures.y_after in
-    let end : c.end_of_set-end.result ≡ min (at.first + vec_len at.free * it.per c.args.drawing.now) n =
-    rw (← c.per-per.ensures.value, ← c.layers-count.ensures.value) c.end_of_set-end.ensures in
-    let now_drawn : flat_map it.bytes c.swap.new.x.items ≡ images_between f at.first c.end_of_set-end.result =
+    let end : c.start_of_page-end.result ≡ min (at.first + vec_len at.free * it.per c.args.drawing.now) n =
+    rw (← c.per-per.ensures.value, ← c.layers-count.ensures.value) (rw c.len.ensures at c.start_of_page-end.ensures) in
+    let now_drawn : flat_map it.bytes c.swap.new.x.items ≡ images_between f at.first c.start_of_page-end.result =
     ap (flat_map it.bytes) (ap vec_items drawn) ∙ out.images ∙ ap (images_between f at.first) (sym end) in
     record {
       low = omega (arith, end);
       text = set-out f n (g.O.Sink.contents c.args.sink.now) (g.O.Sink.contents at.sink) (g.O.Sink.contents c.draw_and_put.new.sink)
           (g.O.Failures.failure_count at.sink) (g.O.Failures.failure_count c.draw_and_put.new.sink) at.written c.in_ok-written.written at.first
-          c.end_of_set-end.result (flat_map it.bytes at.drawn.items) (flat_map it.bytes c.swap.new.x.items) inv.text
+          c.start_of_page-end.result (flat_map it.bytes at.drawn.items) (flat_map it.bytes c.swap.new.x.items) inv.text
           (rw (← c.as_slice.ensures.value) out.put) (omega (arith, end, inv.low)) (omega (arith, end)) now_drawn;
       counted = out.put.same ∙ inv.counted;
       some_drawn = subst (λ (n : ℕ). 0 < n) (sym (ap vec_len drawn ∙ out.count)) inv.some_free;
       some_free = subst (λ (n : ℕ). 0 < n) (sym (ap vec_len free)) inv.some_drawn;
-      drawn_fit = All-same (it.fits c.args.drawing.now) c.swap.new.x.items c.draw_and_put.new.free.items (ap vec_items drawn) out.room;
-      free_fit = All-same (it.fits c.args.drawing.now) c.swap.new.y.items at.drawn.items (ap vec_items free) inv.drawn_fit;
+      drawn_fit = All-same fits c.swap.new.x.items c.draw_and_put.new.free.items (ap vec_items drawn) out.room;
+      free_fit = All-same fits c.swap.new.y.items at.drawn.items (ap vec_items free) inv.drawn_fit;
     }
 
 pub returns-in_err-written : goal.returns-in_err-written

@@ -1,4 +1,0 @@
-use Rattle.stlslice.proofs.write.pngs_by.write_made_pngs.Goals as goal
-
-pub write_by_pages-requires-clause-sets : goal.write_by_pages-requires-clause-sets
-write_by_pages-requires-clause-sets g c κs within = c.in-Ok.ensures.sets
