@@ -120,7 +120,7 @@ pub(crate) fn make_missing<A: Allocator + Copy + Send + Sync>(
     if is_full(places, 0, places.len()) {
         return Ok(0);
     }
-    let mut slicer = Slicer::new(alloc, job)?;
+    let mut slicer = Slicer::new(alloc, job);
     let mut late = 0u32;
     for s in 0..job.stripes() {
         late += make_stripe(job, &mut slicer, s, places)?;

@@ -39,17 +39,17 @@ impl<'m, A: Allocator> Model for Slicer<'m, A> {
 }
 
 impl<'m, A: Allocator + Copy + Send + Sync> Slicer<'m, A> {
-    /// A slicer of the job. `Err` only if an allocation failed.
-    pub fn new(alloc: A, job: &'m Job<A>) -> Result<Slicer<'m, A>, AllocError>
-        ensures { IfOk result (λ slicer. slicer ≡ job.now) }
+    /// A slicer of the job. It allocates no memory.
+    pub fn new(alloc: A, job: &'m Job<A>) -> Slicer<'m, A>
+        ensures { result ≡ job.now }
     {
-        Ok(Slicer {
+        Slicer {
             alloc,
             job,
             linker: Linker::new(alloc),
             filler: Filler::new(alloc),
             sweep: None,
-        })
+        }
     }
 
     /// Slices stripe s of the job, its layers from the lowest up; s is below `Job::stripes`. `Err` only if an allocation
@@ -106,7 +106,7 @@ pub fn slice_stripe<'m, A: Allocator + Copy + Send + Sync>(
     ensures stripe { IfOk result (λ piece. piece.stripe ≡ s) }
     ensures lawful { IfOk result (λ piece. IsStripe piece.job piece.stripe piece.layers) }
 {
-    Slicer::new(alloc, job)?.slice(s)
+    Slicer::new(alloc, job).slice(s)
 }
 
 /// Slices the layers from `first` up to, but not including, `end` by a sweep that is at the first.

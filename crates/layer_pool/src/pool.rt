@@ -120,8 +120,7 @@ fn run_workers<
     );
 }
 
-/// Slices and files the stripes that one worker draws with its pass. If the worker gets no memory for its slicer, it draws
-/// nothing, and the others draw its share.
+/// Slices and files the stripes that one worker draws with its pass.
 fn run_worker<'m, J: OfJob, R: Wait, A: Allocator + Copy + Send + Sync, G: Gate<A>>(
     shared: &Shared<'_, 'm, J, R, A, G>,
     worker: u32,
@@ -129,9 +128,7 @@ fn run_worker<'m, J: OfJob, R: Wait, A: Allocator + Copy + Send + Sync, G: Gate<
 )
     requires { IsOwned shared.now.claims.now pass }
 {
-    let Ok(mut slicer) = Slicer::new(shared.alloc, shared.job) else {
-        return;
-    };
+    let mut slicer = Slicer::new(shared.alloc, shared.job);
     // A bound on the turns of the loop, so that it ends: a pass draws at most all stripes, and then nothing.
     for _ in 0..=shared.job.stripes() {
         let Some(stripe) = shared.claims.draw(&mut pass) else {

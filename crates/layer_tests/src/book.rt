@@ -257,14 +257,14 @@ fn takes_in_order<'m>(
     book: &mut Book<'m, Global>,
     job: &'m Job<Global>,
     order: &[u64],
-) -> Result<bool, AllocError> {
-    let mut slicer = Slicer::new(alloc, job)?;
+) -> bool {
+    let mut slicer = Slicer::new(alloc, job);
     for stripe in order {
         if !takes_slice(book, &mut slicer, job, *stripe) {
-            return Ok(false);
+            return false;
         }
     }
-    Ok(true)
+    true
 }
 
 /// Stripes, how many layers a book of them has, and how many are late at its end.
@@ -277,7 +277,7 @@ fn is_finished(
     (order, filed, late): Order<'_>,
 ) -> Result<bool, AllocError> {
     let mut book = Book::open(alloc, job)?;
-    let is_filed = takes_in_order(alloc, &mut book, job, order) == Ok(true)
+    let is_filed = takes_in_order(alloc, &mut book, job, order)
         && book.filed() == filed
         && book.total_area() == u64::from(filed);
     let build = book.finish(job)?;

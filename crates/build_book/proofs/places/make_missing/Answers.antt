@@ -29,7 +29,7 @@ returns-then-is_full-clause-late g c = zero-add (filed_count c.args.places.now)
 
 pub loop-s-init : goal.loop-s-init
 loop-s-init g c = record {
-  slicer = c.in_ok-slicer.ensures;
+  slicer = c.new-slicer.ensures;
   lawful = c.requires;
   below = λ k low. absurd (omega (arith, low));
   late = zero-add (filed_count c.args.places.now);
