@@ -7,7 +7,7 @@ const ARCHIVER = "unpack it with 7-Zip or a like program";
 // What to do with a kind of files: on Windows, macOS and Linux. NAME is the file, MADE the STL that is made.
 const WAYS = {
     "3MF": [SLICER, SLICER, "prusa-slicer --export-stl --output MADE NAME"],
-    AMF: [SLICER, SLICER, "prusa-slicer --export-stl --output MADE NAME"],
+    AMF: [SLICER, SLICER, "assimp export NAME MADE"],
     OBJ: [BLENDER, BLENDER, "assimp export NAME MADE"],
     PLY: [BLENDER, BLENDER, "assimp export NAME MADE"],
     OFF: ["open it in MeshLab, then File > Export Mesh As", "open it in MeshLab, then File > Export Mesh As",

@@ -108,9 +108,14 @@ const find_areas = latest(async (is_last) => {
     };
     if (await each("areas", { rule: of?.options.rule }, of?.layers, (more) => {
         areas.push(...more);
-        plot();
-        tell_part();
+        tell_areas();
     })) await look_at_shells(of, each);
+});
+
+// At the next frame, so that the worker finds more meanwhile.
+const tell_areas = soon(() => {
+    plot();
+    if (opened) tell_part();
 });
 
 async function quiet() {

@@ -5,18 +5,19 @@ const NEAR_END = 256; // bytes
 
 let file = null, is_binary = false;
 
-// Kinds of files by their first bytes, each a letter.
+// Kinds of files by their first bytes, each a letter. The first are those of the commands, which tell them in the same way: a 3MF
+// is a zip with one of these names within its first 128 bytes.
 const KINDS = {
-    "3MF": /^PK\x03\x04[^]{0,124}?(\[Content_Types\]\.xml|_rels\/|3D\/|Metadata\/)/,
+    "3MF": /^PK\x03\x04(?=[^]{0,105}\[Content_Types\]\.xml|[^]{0,118}_rels\/|[^]{0,121}3D\/|[^]{0,115}Metadata\/)/,
     zip: /^PK\x03\x04/,
     gzip: /^\x1f\x8b/,
+    PLY: /^ply[ \t-\r]/,
+    OFF: /^(?:[ \t-\r]|#[^\n]*\n)*(?:ST)?C?N?4?n?OFF[ \t-\r]/,
+    OBJ: /^(?:[ \t-\r]|#[^\n]*\n)*(?:v|vn|vt|vp|f|o|g|s|mtllib|usemtl)[ \t]/,
+    AMF: /^(?:\xef\xbb\xbf)?[ \t-\r]*(?:<[?!][^>]*>[ \t-\r]*)*<amf[ \t-\r>]/,
     "7z or RAR": /^(7z\xbc\xaf|Rar!)/,
     "UTF-16": /^(\xff\xfe|\xfe\xff)/,
     "byte order mark": /^\xef\xbb\xbf/,
-    PLY: /^ply\s/,
-    OFF: /^(\s|#[^\n]*\n)*(ST)?(C)?(N)?(4)?OFF\s/,
-    OBJ: /^(?:\s|#[^\n]*\n)*(?:v|vn|vt|vp|f|o|g|s|mtllib|usemtl)[ \t]/,
-    AMF: /^\s*(<\?xml[^>]*>\s*)?(<!--[^]*?-->\s*)*<amf\b/i,
     STEP: /^\s*ISO-10303-21;/,
     IGES: /^[^\n]{72}S +1\s/,
     glTF: /^(glTF|\s*\{\s*"(asset|scene|accessors)")/,

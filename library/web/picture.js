@@ -1,12 +1,12 @@
 // Bits as a picture, and how many are 1. A picture's pixel stands for a square of the image's, whose side is 1, 2, 4 or 8.
 
-const MOST_PIXELS = 1 << 22, MOST_SIDE = 4096; // of a picture
+const MOST_PIXELS = 1 << 22, LONGEST = 4096; // of a picture, and its longer side
 const ONES = Uint8Array.from({ length: 256 }, (_, byte) => [...byte.toString(2)].filter((it) => it === "1").length);
 
 // The least side of a picture that is not too large.
 function shrinking({ columns, rows }) {
     let side = 1;
-    while (columns * rows > MOST_PIXELS * side * side || Math.max(columns, rows) > MOST_SIDE * side) side *= 2;
+    while (columns * rows > MOST_PIXELS * side * side || Math.max(columns, rows) > LONGEST * side) side *= 2;
     return side;
 }
 

@@ -43,15 +43,21 @@ function refine() {
     if (opened && shown && shown.wanted !== side_now()) show();
 }
 
-let is_drawn_soon = false;
-function draw_soon() {
-    if (is_drawn_soon) return;
-    is_drawn_soon = true;
-    requestAnimationFrame(() => {
-        is_drawn_soon = false;
-        draw();
-    });
+// A function that runs a task at the next frame: once, however often it is called before.
+function soon(task) {
+    let is_waiting = false;
+    const call = () => {
+        if (is_waiting) return;
+        is_waiting = true;
+        requestAnimationFrame(() => {
+            is_waiting = false;
+            task();
+        });
+    };
+    return Object.assign(call, { is_waiting: () => is_waiting });
 }
+
+const draw_soon = soon(() => draw());
 
 function draw() {
     const { pen, width, height } = fitted(by("image"));

@@ -2,6 +2,7 @@
 // a call and a number, and the reply has the same number. Calls run one after the other.
 
 const DONE = 0, MEMORY = 6, NO_ROOM = 7, LINE = 256;
+const HEAD = 16; // bytes before the rows of an image, of which the words take no more
 const FITTED = 0, GIVEN = 1, SCREEN = 2; // where the grid lies
 const AREAS_AT_ONCE = 32; // layers
 
@@ -144,11 +145,12 @@ function shape_told() {
 const row_bytes = () => shape.columns + 7 >> 3;
 const image_bytes = () => row_bytes() * shape.rows;
 
-// The layer's image: its rows, without the words before them.
+// The layer's image: its rows, without the words before them. It stands in the library's memory until the next call, and begins
+// there at a whole word.
 function bits_of(k) {
-    const room = buffer("image", 16 + image_bytes());
-    must(ask("stlslice_mask", big(places.mesh), k, big(room.at), big(room.size), big(places.size)));
-    return bytes(room.at + size_at(places.size) - image_bytes(), image_bytes()).slice();
+    const size = image_bytes(), head = `P4\n${shape.columns} ${shape.rows}\n`.length, room = buffer("image", HEAD + size);
+    must(ask("stlslice_mask", big(places.mesh), k, big(room.at + HEAD - head), big(head + size), big(places.size)));
+    return bytes(room.at + HEAD, size);
 }
 
 function area_of(k) {
@@ -188,14 +190,15 @@ function loops_of(k) {
 
 const numbers_at = (at, count) => Float64Array.from(new BigInt64Array(library.memory.buffer, at, count), Number);
 
-// What the page shows of one layer: a picture whose pixels stand for squares of this side, or of a larger one. If that is
-// smaller than the image, it comes with the image's bits.
+// What the page shows of one layer: a picture whose pixels stand for squares of this side, or of a larger one. In that case the
+// image's bits come with it.
 async function layer({ k, side: wanted, colours }) {
-    const bits = bits_of(k), loops = loops_of(k), side = Math.max(wanted, shrinking(shape)), outlines = outlines_of(loops);
-    const picture = await createImageBitmap(picture_of(bits, shape, side, colours));
-    known[k] = filled_in(bits);
-    moved.push(picture, bits.buffer, outlines.points.buffer, outlines.ends.buffer);
-    return { k, area: known[k], loops: loops.ends.length, outlines, side, picture, bits: side > 1 ? bits : null };
+    const loops = loops_of(k), outlines = outlines_of(loops), side = Math.max(wanted, shrinking(shape)), image = bits_of(k);
+    const drawn = picture_of(image, shape, side, colours), bits = side > wanted ? image.slice() : null;
+    known[k] ??= filled_in(image);
+    const picture = await createImageBitmap(drawn);
+    moved.push(picture, outlines.points.buffer, outlines.ends.buffer, ...bits ? [bits.buffer] : []);
+    return { k, area: known[k], loops: loops.ends.length, outlines, side, picture, bits };
 }
 
 // The layer's image as a PNG of the library's, white inside the part.

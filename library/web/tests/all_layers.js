@@ -13,7 +13,8 @@
     const images = [], points = [], areas = [], ends = [];
     for (let k = 0; k < shape.layers; k++) {
         bits_of(k);
-        images.push(bytes(buffers.image.at, size_at(places.size)).slice());
+        const size = size_at(places.size);
+        images.push(bytes(buffers.image.at + HEAD + image_bytes() - size, size).slice());
         areas.push(area_of(k));
         const loops = loops_of(k);
         points.push(new Uint8Array(loops.points.buffer));

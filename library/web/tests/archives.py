@@ -5,6 +5,7 @@ import json
 import math
 import os
 import random
+import shlex
 import shutil
 import struct
 import subprocess
@@ -31,14 +32,15 @@ def cases(room):
     write_ring(ring)
     with open(binary, "wb") as file:
         file.write(binary_of(gear()))
-    own = {"exposure": "7.125", "first_exposure": "30.5", "fade": "3", "material": "Tough,  blue\u00e9"}
-    own_words = ["--exposure", "7.125", "--first-exposure", "30.5", "--fade", "3", "--material", own["material"]]
+    own, resin = {"exposure": "7.125", "first_exposure": "30.5", "fade": "3"}, "Tough,  blue\u00e9"
+    own_words = ["--exposure", "7.125", "--first-exposure", "30.5", "--fade", "3"]
     bracket, supported = example("bracket"), example("supported")
     return [
         (supported, {"printer": "SL1", "height": 100}, ["--printer", "SL1", "--layer", "100"]),
-        (bracket, {"printer": "SL1S", "turn": True, **own}, ["--printer", "SL1S", "--turn", *own_words]),
-        (bracket, {**screen(701, 403, "100"), "height": 1000, "mirror_x": True, "mirror_y": True, **own},
-         ["--canvas", "701x403", "--pitch", "100", "--layer", "1000", "--mirror-x", "--mirror-y", *own_words]),
+        (bracket, {"printer": "SL1S", "turn": True, **own, "material": resin},
+         ["--printer", "SL1S", "--turn", *own_words, "--material", resin]),
+        (bracket, {**screen(701, 403, "100"), "height": 1000, "mirror_x": True, "mirror_y": True, **own, "material": "-x"},
+         ["--canvas", "701x403", "--pitch", "100", "--layer", "1000", "--mirror-x", "--mirror-y", *own_words, "--material=-x"]),
         (bracket, {**screen(540, 210, "610"), "height": 3330, "unit": 2},
          ["--canvas", "540x210", "--pitch", "610", "--layer", "3330", "--unit", "cm"]),
         (supported, {**screen(11520, 5120, "19"), "height": 500}, ["--canvas", "11520x5120", "--pitch", "19", "--layer", "500"]),
@@ -107,11 +109,19 @@ def opened_in(page, part, fields):
     holds(f"{part} is opened: {page.text('fault_line')}", page.value("opened !== null"))
 
 
+def same_copied(page, name, words, archive):
+    """The command to copy has these words for a file of this name, and those that the form has without being filled."""
+    usual = [it for option, value in (("--layer", "50"), ("--rule", "positive")) if option not in words for it in (option, value)]
+    first, *found, file, output = shlex.split(page.text("command"))
+    same([first, sorted(found), file, output], ["stlslice-sl1", sorted([*words, *usual]), name, archive], "the command to copy")
+
+
 def try_archives(page, room, program, every):
     entries = 0
     for part, fields, words in every:
         opened_in(page, part, fields)
         name = f"{os.path.basename(part)[:-4]}.sl1"
+        same_copied(page, os.path.basename(part), words, name)
         wanted = os.path.join(room, name)
         command(program, "stlslice-sl1", part, wanted, words)
         entries += same_archive(page.saved(name, "save_archive"), wanted, f"{name} {fields}")

@@ -146,7 +146,7 @@ class Page:
 
     def k(self):
         """The layer that is shown, once it is that of the slider."""
-        self.until("opened && shown && shown.k === k_now() && !show_layer.is_running() && !is_drawn_soon")
+        self.until("opened && shown && shown.k === k_now() && !show_layer.is_running() && !draw_soon.is_waiting()")
         return self.value("shown.k")
 
     def middle(self, selector):

@@ -91,7 +91,7 @@ def try_told(page, program):
     area = area_of(images[37])
     told = page.text("told").replace(",", "")
     same(told, f"Layer 37 of {len(images)} z 3.750 mm area {area / 100:.3f} mm² ({area} pixels) 1 loop", "what is told of the layer")
-    page.until("areas.length === opened.layers")
+    page.until("areas.length === opened.layers && !tell_areas.is_waiting()")
     holds("the canvas shows each pixel at least once", page.value("Math.min(framed().across, framed().down) > 1"))
     stride = (columns + 7) // 8
     lines = (images[37][at:at + stride] for at in range(0, stride * rows, stride))
@@ -172,11 +172,12 @@ def try_places(page):
 
 
 # Whether the canvas shows a pixel of the image as filled, when it is near and in the middle
-NEAR = """(() => {
+NEAR = """(async () => {
     const { columns, rows } = opened, canvas = by("image");
     look = { zoom: 12, x: 0, y: 0 };
     const { across, down } = framed(), shift = (count, at, scale) => (count / 2 - at - 0.5) * scale / dense();
     look = { zoom: 12, x: shift(columns, %d, across), y: shift(rows, %d, down) };
+    await show();
     draw();
     const middle = [canvas.width / 2, canvas.height / 2].map(Math.floor);
     return canvas.getContext("2d").getImageData(...middle, 1, 1).data[0] < 0xa0;
@@ -192,7 +193,7 @@ def try_large_screen(page, program):
     page.until(f"{IDLE} && opened.columns === 5000")
     page.value("by('outlines').checked = false; go(3)")
     same(page.k(), 3, "layer")
-    holds("the picture is made smaller", page.value("shown.side > 1 && shown.bits.length > 0"))
+    holds("the picture is made smaller", page.value("shown.side > 1 && !shown.bits"))
     grid = "--grid=" + ",".join(map(str, page.value("[opened.columns, opened.rows, opened.layers, ...opened.origin]")))
     images, *_ = images_of(program, example("bracket"), "--pitch", "10", "--layer", "1000", "--rule", "positive", grid)
     row = 1500

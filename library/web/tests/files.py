@@ -2,8 +2,10 @@
 
 import base64
 import gzip
+import json
 import math
 import os
+import random
 import re
 import struct
 import subprocess
@@ -91,7 +93,7 @@ KINDS = {
     "my part.obj": ("OBJ, and no STL", "assimp export 'my part.obj' 'my part.stl'"),
     "part.ply": ("PLY, and no STL", "assimp export part.ply part.stl"),
     "part.off": ("OFF, and no STL", "assimp export part.off part.stl"),
-    "part.amf": ("AMF, and no STL", "prusa-slicer --export-stl --output part.stl part.amf"),
+    "part.amf": ("AMF, and no STL", "assimp export part.amf part.stl"),
     "part.step": ("STEP, and no STL", "FreeCAD"),
     "part.glb": ("glTF, and no STL", "Blender"),
     "-part.gcode": ("G-code, and no STL", "made for one printer"),
@@ -110,7 +112,8 @@ def bodies():
         "part.3mf": zipped("[Content_Types].xml"), "part.zip": zipped("part.stl"), "part.stl.gz": gzip.compress(text),
         "packed.stl": gzip.compress(text), "other.stl": b"\nvn 0 0 1\n",
         "my part.obj": b"# by hand\nv 0 0 0\n", "part.ply": b"ply\nformat ascii 1.0\n", "part.off": b"OFF\n8 6 0\n",
-        "part.amf": b'<?xml version="1.0"?>\n<amf unit="millimeter">', "part.step": b"ISO-10303-21;\nHEADER;\n",
+        "part.amf": b'\xef\xbb\xbf<?xml version="1.0"?>\n<!DOCTYPE amf>\n<amf unit="millimeter">',
+        "part.step": b"ISO-10303-21;\nHEADER;\n",
         "part.glb": b"glTF\2\0\0\0", "-part.gcode": b"; sliced\nG28 \nG1 X0\n", "part.html": b"<!DOCTYPE html>\n<html>",
         "part.png": b"\x89PNG\r\n\x1a\n", "cut.stl": bytes(80) + struct.pack("<I", 12) + bytes(500),
         "mark.stl": b"\xef\xbb\xbf" + text, "wide.stl": text.decode().encode("utf-16"),
@@ -142,6 +145,25 @@ def try_kinds(page, room):
         holds(f"{told!r} says {words!r}", words in told)
         if title.endswith(", and no STL") and name not in ("-part.gcode", "part.html", "part.png"):
             same([it in told for it in ("Windows", "macOS", "Linux")], 3 * [True], f"the systems that {told!r} names")
+
+
+# What the beginnings of files are put together of, with all that the commands look for
+PIECES = [*(it.encode() for it in (
+    "PK\3\4", "[Content_Types].xml", "_rels/", "3D/", "Metadata/", "ply", "ST", "C", "N", "4", "n", "OFF", "off", "v", "vn", "vt", "vp",
+    "f", "o", "g", "s", "mtllib", "usemtl", "<?xml?>", "<!DOCTYPE amf>", "<!-- > -->", "<amf", "<AMF", ">", "#", "solid", "0", "\0", " ",
+    "\t", "\n", "\r", "\v", "\f")), b"\x1f\x8b", b"\xef\xbb\xbf", b"\xa0", b"\xff\xfe", bytes(100), bytes(17)]
+
+
+def try_kinds_of_commands(page):
+    """A file is of a kind that the commands know exactly if they say so."""
+    from stlslice_commands import parts
+    draw, known = random.Random(31), {"3MF", "zip", "gzip", *parts.KINDS}
+    heads = [b"".join(draw.choices(PIECES, k=draw.randint(1, 6))) for _ in range(20000)]
+    told = page.in_worker(f"{json.dumps([it.hex() for it in heads])}.map((it) => "
+                          "kind_of(Uint8Array.from(it.match(/../g), (byte) => parseInt(byte, 16)), 0))")
+    wanted = [parts.kind_of(it) for it in heads]
+    same([kind if kind in known else None for kind in told], wanted, "kinds")
+    same(set(wanted), {None, *known}, "the kinds that were seen")
 
 
 def try_first_hints(page, room):
@@ -238,6 +260,7 @@ def try_inside_out(page, room, program):
 def try_all(page, room, program):
     try_binary(page, room, program)
     try_kinds(page, room)
+    try_kinds_of_commands(page)
     try_first_hints(page, room)
     try_several(page)
     try_units(page, room, program)

@@ -5,6 +5,7 @@ import json
 import os
 import shlex
 
+from archives import ran_command
 from common import IDLE, PHONE, example, holds, same, script
 
 TWICE = (195, 422), (720, 450), (512, 350)  # PHONE, DESK and 1024 x 700 at 200 %
@@ -218,6 +219,23 @@ def try_command(page, program):
     try_copy(page)
 
 
+def try_other_units(page, program):
+    """The command for a unit that the program does not take is another, which finds as much in the part."""
+    page.load()
+    page.set(2000, 5000, unit=2)
+    page.take(example("bracket"))
+    page.until("areas.length === opened.layers")
+    words = shlex.split(page.text("command"))
+    same(words, "stlslice-page --pitch 2000 --layer 5000 --rule positive --unit cm bracket.stl bracket.html".split(), "the command for cm")
+    made = os.path.join(page.browser.saved, words[-1])
+    ran = ran_command(program, words[0], *words[1:-2], example("bracket"), made)
+    holds(f"{ran.stdout} has the page's volume", f"{made}: 54 layers, {page.value('millilitres(sum(areas))')} ml" in ran.stdout)
+    os.remove(made)
+    page.change(unit=3, pitch=50000, height=50000)
+    page.until(f"{IDLE} && opened.options.unit === 3")
+    holds(page.text("command"), " --unit m " in page.text("command"))
+
+
 def try_copy(page):
     """It is said whether the command was copied."""
     page.value("Object.defineProperty(navigator, 'clipboard', { value: { writeText: async (it) => { globalThis.clip = it; } } }); 0")
@@ -268,3 +286,4 @@ def try_all(page, program):
     try_colours(page)
     try_kept(page)
     try_command(page, program)
+    try_other_units(page, program)

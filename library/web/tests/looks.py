@@ -55,7 +55,8 @@ def try_states(page, room, folder, name):
     look(page, folder, f"{name}_own")
     page.value("by('archive').querySelector('details').open = true; document.querySelector('aside').scrollTop = 300; scrollTo(0, 1e6)")
     look(page, folder, f"{name}_settings")
-    page.value("scrollTo(0, 0); by('busy').hidden = false; by('busy_words').textContent = 'Saving supported.sl1'; tell_progress(120, 640);"
+    page.value("document.querySelector('aside').scrollTop = 0; scrollTo(0, 0); by('busy').hidden = false; tell_progress(120, 640);"
+               "by('busy_words').textContent = 'Saving supported.sl1';"
                "warn('A shell is inside out somewhere: 2.376 ml by positive, 6.556 ml by nonzero; look at the layers.')")
     look(page, folder, f"{name}_saving")
     page.value("end_wait()")

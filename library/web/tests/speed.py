@@ -5,7 +5,8 @@
 
 For each page: how many layers are shown a second while the slider is moved, on screens of 2560 x 1620 and 11520 x 5120 pixels;
 milliseconds of one picture of 11520 x 5120 bits; and how long the areas of 800 layers take, of a ring of a million facets. Of
-several runs the best counts. It needs Chromium.
+several runs the best counts. The last line has the processors, and the machine's load before the run, which should be near 0. It
+needs Chromium.
 """
 
 import os
@@ -92,6 +93,7 @@ def figures(page, ring):
 def main():
     if len(sys.argv) < 2:
         sys.exit("use: library/web/tests/speed.py PREVIEW.html..")
+    load = os.getloadavg()[0]
     with tempfile.TemporaryDirectory(prefix="stlslice-speed-") as room, browser.Browser(DESK) as chromium:
         ring, told = os.path.join(room, "ring.stl"), {}
         ring_of(FACETS, ring)
@@ -102,6 +104,7 @@ def main():
         small, large, picture, areas = zip(*runs)
         print(f"{path}: {max(small):.1f} layers a second at 2560 x 1620, {max(large):.1f} at 11520 x 5120, a picture of 12K bits "
               f"{min(picture):.0f} ms, areas of 800 layers {min(areas):.0f} ms")
+    print(f"{os.cpu_count()} processors, load {load:.1f} before the run")
 
 
 if __name__ == "__main__":
