@@ -57,7 +57,7 @@ SPELLED = {
         ("commands/stlslice_commands/meshes.py", "FACETS = {}"), ("commands/stlslice_commands/shells.py", "LIMIT = {} - 2"),
         ("commands/stlslice_commands/words.py", "more than {} facets"),
         ("commands/stlslice_commands/parts.py", "a mesh has at most {} facets"),
-        ("library/tests/hostile.c", "most = {};")],
+        ("library/tests/hostile.c", "MOST = {} }", "too many facets at triangle {}")],
     "stripe_claims::PASS_LIMIT": [
         ("--help", "Number of threads, 1 to {}"), ("docs/usage.md", "| `--workers N` | 1 to {}; default"),
         ("man/stlslice.1", "slice and draw, 1 to {}."), ("completions/_stlslice", "number (1 to {}):"),

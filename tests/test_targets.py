@@ -99,6 +99,10 @@ class Tried:
         told = self.by_target(self.static("hostile", library_test.FAILING), BRACKET, line, run=Room.out)
         assert int(told.split()[0]) > 100, told
 
+    def test_threads_ask_one_mesh_at_the_same_time(self):
+        told = self.by_target(self.static("threads"), BRACKET, "200", "500", run=Room.out)
+        same(told, b"64 threads, 40 answers each\n", "what the program says")
+
     def test_layers_stripes_and_arrays_have_the_program_s_bytes_and_faults_its_lines(self):
         layers, cases = self.static("layers"), [*parts(self.room), *refused(self.room)]
         wanted = two_at_a_time(self.by_program, cases)

@@ -6,6 +6,7 @@ The numbers are hostile: NaNs, infinities, subnormal numbers, -0, halves of a mi
 are counts and lengths: a file whose count is not that of its facets is a text.
 """
 
+import gc
 import math
 import random
 import re
@@ -19,6 +20,7 @@ import stlslice
 LIMIT, FARTHEST = 1048576, 128000000
 FACTORS = {"mm": 1000, "inch": 25400, "cm": 10000, "m": 1000000}
 RULES = ("evenodd", "nonzero", "positive")
+FACET = "facet normal 0 0 0 outer loop vertex {} {} {} vertex {} {} {} vertex {} {} {} endloop endfacet\n"
 # the bits of: zeros; subnormal numbers; the least normal ones; the greatest; infinities; NaNs, quiet and signalling; 1e38; 128,000
 # and -128,000 with their neighbours; about 5039.37 and -5039.37, the end of the range in inches, 12,800 and 128, in centimetres and
 # metres; half a micrometre, and a sixteenth of a millimetre, with their neighbours
@@ -166,11 +168,19 @@ def compare(data, dice):
 
 
 def as_many_as_may_be():
-    """The greatest number of facets, and one more, which is told from the count."""
+    """The greatest number of facets of a mesh, and one more, told from the count. `stlslice.read` takes more, of texts too."""
     for count in (LIMIT, LIMIT + 1):
         found = outcome(stlslice.box, bytes(80) + struct.pack("<I", count) + bytes(50 * count))
         wanted = (None, (3, f"stlslice: too many facets: {count}")) if count > LIMIT else (stlslice.Box(count, (0,) * 3, (0,) * 3), None)
         assert found == wanted, (found, wanted)
+    gc.disable()  # it would look at millions of tuples again and again
+    zeros, last = (0,) * 9, tuple(range(9))
+    binary = bytes(80) + struct.pack("<I", LIMIT + 1) + bytes(50 * LIMIT) + struct.pack("<12fH", 0, 0, 0, *last, 0)
+    text = "solid\n" + FACET.format(*zeros) * LIMIT + FACET.format(*last) + "endsolid\n"
+    for data in (binary, text.encode()):
+        facets = stlslice.read(data)
+        ends = [[int(it) for corner in facets[at] for it in corner] for at in (0, LIMIT)]
+        assert (len(facets), ends) == (LIMIT + 1, [[*zeros], [1000 * it for it in last]]), (len(facets), ends)
 
 
 def main():

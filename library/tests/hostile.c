@@ -28,6 +28,9 @@ static const char *const texts[] = {
 };
 static const char *const step = "pitch and layer height take 1 to 100000 micrometres";
 
+/* the most facets of an opened mesh */
+enum { MOST = 1048576 };
+
 static uint8_t *text;
 static size_t text_size;
 static stlslice_options options;
@@ -203,13 +206,12 @@ static void arrays(void) {
         triangles[11] = 9; /* comes later than each of them */
         CHECK(refuses(points, 4, triangles, 4, STLSLICE_OUT_OF_RANGE, named));
     }
-    const size_t most = 1048576;
-    uint32_t *flat = (uint32_t *)calloc(3 * (most + 1), sizeof *flat);
+    uint32_t *flat = (uint32_t *)calloc(3 * (MOST + 1), sizeof *flat);
     CHECK(flat != NULL);
-    CHECK(refuses(corners_of_four, 4, flat, most, STLSLICE_GRID, "no facet is left"));
-    CHECK(refuses(corners_of_four, 4, flat, most + 1, STLSLICE_OUT_OF_RANGE, "too many facets at triangle 1048576"));
-    flat[3 * most - 1] = 4;
-    CHECK(refuses(corners_of_four, 4, flat, most + 1, STLSLICE_OUT_OF_RANGE, "point 4 of triangle 1048575 is missing"));
+    CHECK(refuses(corners_of_four, 4, flat, MOST, STLSLICE_GRID, "no facet is left"));
+    CHECK(refuses(corners_of_four, 4, flat, MOST + 1, STLSLICE_OUT_OF_RANGE, "too many facets at triangle 1048576"));
+    flat[3 * MOST - 1] = 4;
+    CHECK(refuses(corners_of_four, 4, flat, MOST + 1, STLSLICE_OUT_OF_RANGE, "point 4 of triangle 1048575 is missing"));
     free(flat);
     CHECK(stlslice_open_mesh(corners_of_four, 4, four, 4, NULL, &mesh, &shape, line, sizeof line) == STLSLICE_OUT_OF_RANGE);
     CHECK(stlslice_open_mesh(corners_of_four, 4, four, 4, &options, NULL, &shape, line, sizeof line) == STLSLICE_OUT_OF_RANGE);
@@ -408,6 +410,36 @@ static void facets(void) {
     free(list);
 }
 
+/* A binary STL of more facets than an opened mesh may have: `stlslice_facets` alone takes it. Facet n has a corner whose
+ * x is n sixteenths of a millimetre. */
+static void many_facets(void) {
+    enum { COUNT = MOST + 1 };
+    const size_t size = 84 + (size_t)50 * COUNT;
+    uint8_t *const file = (uint8_t *)calloc(size, 1);
+    stlslice_facet *const list = (stlslice_facet *)malloc(COUNT * sizeof *list);
+    stlslice_mesh mesh = STLSLICE_CLOSED;
+    stlslice_shape shape;
+    stlslice_corners corners;
+    size_t count = 0;
+    char line[STLSLICE_LINE];
+    CHECK(file != NULL && list != NULL);
+    for (int at = 0; at < 4; at++)
+        file[80 + at] = (uint8_t)(COUNT >> 8 * at);
+    for (size_t n = 0; n < COUNT; n++) {
+        const float x = (float)n / 16;
+        memcpy(file + 84 + 50 * n + 12, &x, sizeof x);
+    }
+    CHECK(stlslice_box(file, size, 0, &corners, line, sizeof line) == STLSLICE_TEXT);
+    CHECK(strcmp(line, "too many facets: 1048577") == 0);
+    CHECK(stlslice_open(file, size, &options, &mesh, &shape, line, sizeof line) == STLSLICE_TEXT);
+    CHECK(strcmp(line, "too many facets: 1048577") == 0);
+    CHECK(stlslice_facets(file, size, 0, list, COUNT, &count, NULL, 0) == STLSLICE_DONE && count == COUNT);
+    for (size_t n = 0; n < COUNT; n++)
+        CHECK(list[n].corners[0][0] == (int32_t)((125 * n + 1) / 2) && list[n].corners[2][2] == 0);
+    free(file);
+    free(list);
+}
+
 /* a line that is cut, or has just enough room, ends with 0, and what lies after it is as it was */
 static void lines(void) {
     stlslice_corners corners;
@@ -540,6 +572,7 @@ int main(int count, char **words) {
     pngs();
     boxes();
     facets();
+    many_facets();
     lines();
     closed();
     printf("%lu failing allocations\n", short_memory(words[2]));
