@@ -11,7 +11,7 @@ import sys
 import time
 import zipfile
 
-from as_installed import OPEN, OPEN_LINE, PAGE, PNGS, SL1, TINY, TINY_PART, keeps_the_part, wrong_words
+from as_installed import OPEN, OPEN_LINE, PAGE, PNGS, SL1, SLABS, TINY, TINY_PART, keeps_the_part, wrong_words
 from common import BRACKET, GEAR, Case, alone, bytes_of, example, name_of, same, text_of, waited
 from parts import archived, box, centred, layers_of, lit, middle, pixels_of_png, text, turned_over, zipped
 
@@ -352,7 +352,7 @@ class Faults(Case):
     def test_an_early_signal_is_no_fault(self):
         """A signal that comes while the modules are read."""
         self.room.put("fractions.py", "import os, signal\nos.kill(os.getpid(), signal.SIGINT)\n")
-        for command in (SL1, PNGS, PAGE):
+        for command in (SL1, PNGS, PAGE, SLABS):
             words = ["env", "--default-signal=INT", command, "part", "out"]
             self.room.refused(130, "", *words, env=self.room.with_env(PYTHONPATH=self.room.path))
 
@@ -412,6 +412,7 @@ class Faults(Case):
             os.remove(self.room.file("part"))
             self.room.refused(1, FULL, *words, "-", script=TO_FULL, **here)
             self.room.refused(1, "%s: No such file or directory: none", *words[:-1], "none", "-", **here)
+            self.room.refused(1, "%s: standard output is closed", *words, "-", script='exec "$@" >&-', **here)
         line = "%s: a folder can't be standard output; stlslice --png writes all layers there, and ./- is a folder's name"
         self.room.refused(1, line, PNGS, *SMALL, BRACKET, "-", **here)
         same(self.room.files(), ["part.stl"], "files")

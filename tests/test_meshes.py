@@ -71,11 +71,11 @@ def box_of(found):
 
 
 def read_obj(body, unit="mm"):
-    return meshes.read_obj(io.BytesIO(body.encode()), unit)
+    return meshes.read_obj(body.encode(), unit)
 
 
 def read_3mf(body, *more):
-    return meshes.read_3mf(io.BytesIO(body if isinstance(body, bytes) else packed(body, *more)), 1 << 20)
+    return meshes.read_3mf(body if isinstance(body, bytes) else packed(body, *more), 1 << 20)
 
 
 def refusal(read, *words):
@@ -130,7 +130,7 @@ class Objs(Case):
                            ("v 0 0 0\nf 1 1", "2 of the OBJ: a face has fewer than three corners"),
                            ("#" + 2 ** 20 * " ", "1 of the OBJ has more than 1,048,576 bytes"),
                            *((f"v 0 0 0\nf 1 1 {at}", f"2 of the OBJ: there is no point '{at}'")
-                             for at in ("2", "0", "-2", "1.5", "x", "1_0", "1/x"))):
+                             for at in ("2", "0", "-2", "+1", "1.5", "x", "1_0", "1/x", "\u0661"))):
             same(refusal(read_obj, body), f"Refused: line {line}", body[:40])
         same(refusal(read_obj, "v 0 0 0\ncurv 0 1 1"), "NotTaken: line 2 of the OBJ: curv isn't taken", "a curve")
 
@@ -183,7 +183,13 @@ class ThreeMfs(Case):
         for body, line in (
                 (changed('v1="0"', 'v1="8"'), "object 1 has a triangle with a point that it hasn't"),
                 (changed(' z="0"', ""), "z is missing"), (changed('x="10"', 'x="nan"'), "'nan' is not a number"),
-                (changed('v1="0"', 'v1="1_0"'), "a triangle has an index that is no number"),
+                *((changed('v1="0"', f'v1="{at}"'), "a triangle has an index that is no number")
+                  for at in ("1_0", "+1", "-1", "\u0661", "1 2", "", " ")),
+                *((changed('x="10"', f'x="{blank}"'), "a vertex has a coordinate that is not a number")
+                  for blank in ("", " ", "1 2")),
+                (model(words='unit=""'), "there is no unit ''"), (model(items=placed("")), "a transform hasn't twelve numbers "
+                                                                  "of at most 40 bytes"),
+                (model(items=placed("1 0 0 0 1 0 0 0 1 0 0 0", "")), "there is no object  before what refers to it"),
                 *((changed('x="10"', f'x="{far}"'), "object 1 reaches beyond 128 m from the origin")
                   for far in ("1e300", "-1e9999999999999999999999")),
                 (model(words='unit="furlong"'), "there is no unit 'furlong'"),
@@ -196,6 +202,7 @@ class ThreeMfs(Case):
                 (model(MESH), "it has a vertex outside an object"),
                 ("<model/>", "its model is none of the core specification 1"),
                 (model(head="<!DOCTYPE a>"), "its XML has a document type"),
+                (model().replace("?>", ' encoding="none"?>', 1), "unknown encoding: none"),
                 (packed(model())[:300], "it is cut, or no zip")):
             same(refusal(read_3mf, body), f"Refused: the 3MF can't be read: {line}", line)
 
@@ -207,7 +214,7 @@ from stlslice_commands import faults, meshes
 with open(sys.argv[2], "rb") as file:
     begin = time.process_time()
     try:
-        meshes.read_3mf(file, 1 << 20)
+        meshes.read_3mf(file.read(), 1 << 20)
         told = None
     except (faults.Refused, meshes.NotTaken) as fault:
         told = str(fault)
@@ -249,11 +256,11 @@ def hostile_files():
 
 
 def mutated(draw, body):
-    """The bytes with some of them changed, left out, said again or replaced."""
+    """The bytes with some of them changed, left out, said again or replaced, and values of XML made empty or blank."""
     body = bytearray(body)
     for _ in range(draw.choice((1, 1, 2, 5))):
         at = draw.randrange(len(body))
-        change = draw.randrange(4)
+        change, values = draw.randrange(5), list(re.finditer(rb'"([^"]*)"', body))
         if change == 0:
             body[at] = draw.randrange(256)
         elif change == 1:
@@ -261,6 +268,9 @@ def mutated(draw, body):
         elif change == 2:
             other = draw.randrange(len(body))
             body[at:at] = bytes(body[other:other + draw.choice((1, 3, 40))])
+        elif change == 3 and values:
+            value = draw.choice(values)
+            body[value.start(1):value.end(1)] = draw.choice((b"", b" ", b"\t\n"))
         else:
             body[at:at + 1] = draw.choice((b"-", b"9", b"/", b'"', b"<", b"e9", b"\0", b" "))
         body = body or bytearray(b"v")
@@ -327,6 +337,9 @@ class Commands(Case):
             told = self.room.out(PAGE, "--pitch", "250", "--layer", "500", name, "page.html", cwd=self.room.path)
             assert "60 layers, 6.000 ml" in told, told
         self.refused(2, "%s: a 3MF has a unit of its own: leave out --unit", "--unit", "inch", "part.3mf")
+        self.room.put("small.3mf", packed(model(words='unit="micron"')))
+        self.refused(1, "%s: no pixel is lit by --rule positive: is the part inside out (try --rule nonzero)? "
+                     "It is 0.010 x 0.020 x 0.030 mm", "small.3mf")
 
     def test_faults_are_told_with_the_command_that_converts(self):
         self.room.put("part.obj", "v 0 0 0\ncurv 0 1 1\n")

@@ -132,6 +132,11 @@ class Commands(Case):
             found = self.made(*words, *narrow)
             assert found[4] == self.centred(turned(SHAPE, 1), (90, 60)), f"{words}: pixels differ"
             same(found[1], note, "note")
+        # a degenerate facet counts for the size that is told, and not for the fit
+        far = self.part(SHAPE + [((50, 50, 0),) * 3], name="far.stl")
+        found = self.made("--turn", "auto", *narrow[:-1], far)
+        assert found[4] == self.centred(turned(SHAPE, 1), (90, 60)), "with a degenerate facet: pixels differ"
+        assert " 50.000 x 50.000 x 5.000 mm" in found[0], found[0]
         wide = ["--canvas", "60x90", "--pitch", "250", "--layer", "500", part]
         self.refused(1, f"{size} 15.000 x 22.500 mm; it fits without --turn", "--turn", *wide)
         small = ["--canvas", "60x60", "--pitch", "250", part]

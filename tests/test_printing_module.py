@@ -16,7 +16,7 @@ import time
 from fractions import Fraction
 from unittest import mock
 
-from as_installed import PAGE, PNGS, SHARE, SL1
+from as_installed import PAGE, PNGS, SHARE, SL1, SLABS
 from common import Case, same, skip, text_of
 from parts import box, pixels_of_p4, pixels_of_png, png_of_p4
 
@@ -115,7 +115,7 @@ class Module(Case):
         same([list(places[3 * it:3 * it + 3]) for it in more[:2]], [[0, 0, 0], [33, 3, 3]], "ends beside a degenerate facet")
         with mock.patch.object(shells, "LIMIT", 11):
             refused(lambda: shells.grouped(mixed), 3,
-                    "the part has a shell of 12 facets, and a mesh has at most 11: export it coarser")
+                    "the part has a shell of 12 facets, and --shells takes at most 11: export it coarser")
         # long strips whose facets stand in any order, so that pieces of a strip that were found apart are joined later
         strips = [[((k, 1, 9 * strip), (k, 0, 9 * strip), (k + 1, 0, 9 * strip)) for k in range(300)] for strip in range(3)]
         mixed = [facet for strip in strips for facet in strip]
@@ -173,12 +173,12 @@ class Module(Case):
         for read, good, bad in (
                 (words.canvas, {"1x1": (1, 1), "2560,1620": (2560, 1620), "99999x9": (99999, 9)},
                  ["2560", "0x9", "09x9", "9x100000", "100000x9", "9x9x9", "-9x9", "9 x 9", ""]),
-                (words.micrometres, {"1": 1, "007": 7, "100000": 100000}, ["0", "-1", "+1", "0.05", "100001", "all", ""]),
+                (words.micrometres, {"1": 1, "007": 7, "100000": 100000}, ["0", "-1", "+1", "0.05", "100001", "\u0661", "all", ""]),
                 (words.workers, {"1": 1, "064": 64}, ["0", "65", "1000000", "2.5", "all", ""]),
                 (words.millimetres, {"150": 150000, "149.5": 149500, "0.000001": Fraction(1, 1000), "999999": 999999000},
                  ["0", "0.0", "-150", "149,5", "150mm", "1000000", ""]),
                 (words.pitch, {"50": (50, 50), "47.25": (47.25, 47.25), "19x24": (19, 24)},
-                 ["0", "0.000", "-1", "47.2500", "1e2", "19x0", "19x24x3", "19x", ""]),
+                 ["0", "0.000", "-1", "47.2500", "1e2", "19x0", "19x24x3", "19x", "\u0661", ""]),
                 (sl1.SECONDS, {"2.2": 2.2, "99999": 99999}, ["0", "0.0", "-2", "2,2", "2s", "100000", ""]),
                 (sl1.COUNT, {"0": 0, "999": 999}, ["-1", "2.5", "1000", "ten", ""])):
             same({word: read(word) for word in good}, good, "values")
@@ -215,7 +215,7 @@ class Module(Case):
 
     def test_sources_are_for_old_python(self):
         """Python 3.8 can read them, as the documents say."""
-        sources = [*glob.glob(os.path.join(SHARE, "stlslice_commands", "*.py")), SL1, PNGS, PAGE]
+        sources = [*glob.glob(os.path.join(SHARE, "stlslice_commands", "*.py")), SL1, PNGS, PAGE, SLABS]
         assert len(sources) > 10, sources
         for source in sources:
             ast.parse(text_of(source), source, feature_version=(3, 8))

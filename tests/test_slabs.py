@@ -7,6 +7,7 @@ import shutil
 import signal
 import socket
 import subprocess
+import sys
 import time
 import unittest
 
@@ -78,6 +79,9 @@ class Words(Slabs):
             room.refused(status, f"%s: {line}", SLABS, *words, cwd=room.path)
             for place in ("2>&-", "2> /dev/full"):
                 room.refused(status, "", SLABS, *words, cwd=room.path, script=f'exec "$@" {place}')
+        for word in ("--help", "--words"):
+            line, script = "%s: No space left on device: standard output", 'exec env -u PYTHONUNBUFFERED "$@" > /dev/full'
+            room.refused(1, line, SLABS, word, BRACKET, cwd=room.path, script=script)
 
     def test_parts_that_are_no_stl_are_refused(self):
         room = self.room
@@ -88,7 +92,7 @@ class Words(Slabs):
         line = "%s: the part is binary STL, and text is taken; convert it: assimp export {1} {0}"
         room.put("a b.stl", binary)
         for words in (["a b.stl", "x"], ["--words", "a b.stl"]):
-            room.refused(3, line.format("text.stl", "a\\ b.stl"), SLABS, *words, cwd=room.path)
+            room.refused(3, line.format("text.stl", "'a b.stl'"), SLABS, *words, cwd=room.path)
         # the command of a refusal makes a file that isn't there yet, of whatever name the part is
         for name, free in (("text.stl", "text-2.stl"), ("text-2.stl", "text-3.stl")):
             room.put(name, binary)
@@ -97,33 +101,27 @@ class Words(Slabs):
     def test_the_part_is_not_overwritten(self):
         keeps_the_part(self.room, [SLABS])
 
-    def few_tools(self, *others):
-        """An environment whose PATH has only what the command takes before GNU parallel, and stand-ins for other tools."""
-        path = self.room.tools("cat", "dirname", "od", "realpath", "wc")
-        for tool in others:
-            os.symlink(shutil.which("true"), os.path.join(path, tool))
-        return {"PATH": path}
-
     def test_missing_tools_are_told(self):
-        env, path, here = self.few_tools(), alone("stlslice-slabs", self.room), self.room.path
+        env, path, here = {"PATH": self.room.tools()}, alone("stlslice-slabs", self.room), self.room.path
         for words, line in (([], "stlslice is neither beside this command nor on PATH; -P says where it is"),
                             (["-S", ":"], "stlslice is not on PATH; -P says where it is, here and there"),
                             (["-P", "none"], "no program at none"), (["-P", here], f"no program at {here}"),
                             (["-S", ":", "-P", "none/at/all"], "no program at none/at/all"),
                             (["-P", PROGRAM], "GNU parallel is missing (Debian: apt-get install parallel)")):
             line = f"stlslice-slabs: {line}"
-            self.room.refused(1, line, shutil.which("bash"), path, *words, BRACKET, "x", cwd=here, env=env)
+            self.room.refused(1, line, sys.executable, path, *words, BRACKET, "x", cwd=here, env=env)
 
     def test_outputs_are_plain_files(self):
         """GNU parallel, which isn't run, has a stand-in."""
-        env, (pipe, link, none) = self.few_tools("parallel"), map(self.room.file, ("pipe", "link", "none"))
+        env, (pipe, link, none) = {"PATH": self.room.tools()}, map(self.room.file, ("pipe", "link", "none"))
+        os.symlink(shutil.which("true"), os.path.join(env["PATH"], "parallel"))
         os.mkfifo(pipe)
         os.symlink("elsewhere", link)
         for out, line in ((pipe, "is no plain file"), (link, "is no plain file"), (self.room.path, "is no plain file"),
                           (os.path.join(none, "out"), f"can't be written: no file can be made in {none}"),
                           (os.path.join(pipe, "out"), f"can't be written: no file can be made in {pipe}")):
             line = f"stlslice-slabs: {out} {line}"
-            self.room.refused(1, line, shutil.which("bash"), SLABS, "-P", PROGRAM, BRACKET, out, env=env)
+            self.room.refused(1, line, sys.executable, SLABS, "-P", PROGRAM, BRACKET, out, env=env)
 
 
 class Batches(Slabs):

@@ -2,28 +2,26 @@
 
 import contextlib
 import errno
+import functools
 import os
 import re
 import signal
 import sys
-import threading
 import time
 
 SIGNALS = (signal.SIGHUP, signal.SIGINT, signal.SIGTERM)
 # Control characters, and what Python has for bytes of a name that are no UTF-8.
 UNSHOWN = re.compile("[\0-\x1f\x7f-\x9f\udc80-\udcff]")
 BLOCK = 1 << 20
-ASIDE = []  # what a signal removes: paths of outputs that aren't whole
+UNDONE = []  # what is called, the last first, if a signal ends the command
 
 
 class Refused(Exception):
-    """What ends a command: what the library said, if anything, the command's own line after it, or None, and the status."""
+    """What ends a command: its own line, or None, the status, and what the library or another program said before, if anything."""
 
     def __init__(self, line, status=1, told=""):
         super().__init__(line)
-        self.line = line
-        self.status = status
-        self.told = told
+        self.line, self.status, self.told = line, status, told
 
 
 def shown(text):
@@ -31,20 +29,11 @@ def shown(text):
     return UNSHOWN.sub(lambda it: f"\\x{ord(it[0]) & 0xff:02x}", text)
 
 
-def write(file, text=""):
-    """Writes and flushes. If the file is full, what is left goes nowhere, so Python doesn't say it again."""
-    try:
-        file.write(text)
-        file.flush()
-    except OSError:
-        os.dup2(os.open(os.devnull, os.O_WRONLY), file.fileno())
-        raise
-
-
 def tell(text):
     """Writes on standard error. If that is full, nothing is said."""
     with contextlib.suppress(OSError):
-        write(sys.stderr, text)
+        sys.stderr.write(text)
+        sys.stderr.flush()
 
 
 def say(line):
@@ -57,19 +46,13 @@ def in_mm(lengths):
     return " x ".join(f"{float(n) / 1000:.3f}" for n in lengths)
 
 
-def as_json(output, layers, size, volume, **more):
-    """The last line for programs: sizes in millimetres, the volume in millilitres."""
-    import json  # only here, since each start reads what it imports anew
-
-    sides = [round(length / 1000, 3) for length in size]
-    return json.dumps({"output": output, "layers": layers, "size": sides, "millilitres": round(volume, 6), **more})
-
-
 def look_at_output(output, part):
-    """Refuses an output that is there and no plain file, or is the part. The name - is standard output."""
+    """Refuses an output that is there and no plain file, or is the part. The name - is standard output, which may be closed."""
     if output == "-":
+        if not sys.__stdout__:
+            raise Refused("standard output is closed")
         return
-    if os.path.lexists(output) and (os.path.islink(output) or not os.path.isfile(output)):
+    if output.endswith("/") or os.path.islink(output) or os.path.exists(output) and not os.path.isfile(output):
         raise Refused(f"{output} is no plain file")
     part = 0 if part == "-" else part  # standard input, as it is open
     if os.path.exists(output) and os.path.exists(part) and os.path.samefile(output, part):
@@ -77,31 +60,38 @@ def look_at_output(output, part):
 
 
 @contextlib.contextmanager
+def undone(undo):
+    """Calls `undo` when the block ends, or when a signal ends the command."""
+    UNDONE.append(undo)
+    try:
+        yield
+    finally:
+        undo()
+        UNDONE.remove(undo)
+
+
+@contextlib.contextmanager
 def aside(output):
     """A path that an output has until it is whole, and no other run takes. What is there when the block ends is removed."""
     path = f"{output}.{os.urandom(4).hex()}.part"
-    ASIDE.append(path)
-    try:
+    with undone(functools.partial(remove, path)):
         yield path
-    finally:
-        remove(path)
-        ASIDE.remove(path)
 
 
 def remove(path):
     """Removes a file, or a folder of files, if it is there."""
     with contextlib.suppress(OSError):
-        if os.path.isdir(path):
-            for name in os.listdir(path):
-                os.remove(os.path.join(path, name))
-            os.rmdir(path)
-        else:
+        if not os.path.isdir(path):
             os.remove(path)
+            return
+        for name in os.listdir(path):
+            os.remove(os.path.join(path, name))
+        os.rmdir(path)
 
 
 @contextlib.contextmanager
 def whole_file(output):
-    """A file for bytes, made aside. It has the output's name once the block has ended well; otherwise it is removed. With - it is
+    """A file of bytes, made aside. It has the output's name once the block has ended well; otherwise it is removed. With - it is
     one without a name."""
     if output == "-":
         import tempfile  # only here, since each start reads what it imports anew
@@ -109,25 +99,36 @@ def whole_file(output):
             yield file
         return
     with aside(output) as path:
-        with named(output), open(path, "xb") as file:
+        with named(output), open(path, "x+b") as file:
             yield file
         os.replace(path, output)
 
 
-def finish(output, line, file=None):
+def finish(given, plain, file, layers, size, volume, **more):
     """Writes the last line, when all of the output is made and before it has its name: if the line can't be written, what was
-    there before is left. With - the bytes of the file go to standard output, and then the line to standard error."""
+    there before is left. With --json it has sizes in millimetres and the volume in millilitres. With - the bytes of the file, which
+    else may be None, go to standard output, and then the line to standard error."""
+    line = shown(f"{given.output}: {plain}")
+    if given.json:
+        import json  # only here, since each start reads what it imports anew
+        sides = [round(length / 1000, 3) for length in size]
+        line = json.dumps({"output": given.output, "layers": layers, "size": sides, "millilitres": round(volume, 6), **more})
     if file:
         file.flush()
     with named("standard output"):
-        if output != "-":
-            write(sys.stdout, line + "\n")
+        if given.output != "-":
+            print(line, flush=True)
             return
-        file.seek(0)
-        for block in iter(lambda: file.read(BLOCK), b""):
-            sys.stdout.buffer.write(block)
-        write(sys.stdout)
+        pour(file)
     tell(line + "\n")
+
+
+def pour(file):
+    """Writes the bytes of a file to standard output."""
+    file.seek(0)
+    for block in iter(functools.partial(file.read, BLOCK), b""):
+        sys.stdout.buffer.write(block)
+    sys.stdout.flush()
 
 
 @contextlib.contextmanager
@@ -175,30 +176,22 @@ class Progress:
 def answers(*calls, rank=lambda fault: 0):
     """What calls return that take long, each made in a thread of its own: Python heeds a signal only between its own steps. Of their
     faults the one of the least rank is raised."""
-    found, faults = [None] * len(calls), []
+    from concurrent.futures import ThreadPoolExecutor  # only here, since each start reads what it imports anew
 
-    def call(number):
-        try:
-            found[number] = calls[number]()
-        except Exception as fault:
-            faults.append(fault)
-
-    threads = [threading.Thread(target=call, args=(number,), daemon=True) for number in range(len(calls))]
-    for it in threads:
-        it.start()
-    for it in threads:
-        it.join()
+    with ThreadPoolExecutor(len(calls)) as pool:
+        made = [pool.submit(call) for call in calls]
+    faults = [it.exception() for it in made if it.exception()]
     if faults:
         raise min(faults, key=rank)
-    return found
+    return [it.result() for it in made]
 
 
 def stop(number, _):
     """Ends the command by a signal, and removes what isn't whole. Further signals are ignored meanwhile. No exception is raised:
     it would end whatever the signal came upon, such as `zipfile` in the middle of an entry, which then raises its own."""
     listen(signal.SIG_IGN)
-    for path in ASIDE:
-        remove(path)
+    for undo in reversed(UNDONE):
+        undo()
     if Progress.drawn:
         with contextlib.suppress(OSError):
             os.write(sys.stderr.fileno(), Progress.CLEAR.encode())
@@ -230,22 +223,26 @@ def end_of(fault):
     return f"{fault.strerror}: {name}" if name else str(fault.strerror), 1
 
 
-def ended(main):
-    """Runs a command, and ends with its status: 0, the library's, or that of a fault."""
-    sys.stdout, sys.stderr = (it or open(os.devnull, "w") for it in (sys.stdout, sys.stderr))
-    sys.stdout.reconfigure(errors="backslashreplace")
-    try:
+def command(main):
+    """What runs a command and ends the process: with status 0, the library's, or that of a fault."""
+    def run():
+        sys.stdout, sys.stderr = (it or open(os.devnull, "w") for it in (sys.stdout, sys.stderr))
+        sys.stdout.reconfigure(errors="backslashreplace")
+        status = 0
         try:
-            main()
-        finally:
+            try:
+                main()
+            except SystemExit as end:  # of argparse, after --help and wrong words
+                status = end.code
             with named("standard output"):
-                write(sys.stdout)
-    except (Refused, ImportError, MemoryError, OSError) as fault:
-        line, status = end_of(fault)
+                sys.stdout.flush()
+        except (Refused, ImportError, MemoryError, OSError) as fault:
+            line, status = end_of(fault)
+            Progress.clear()
+            tell(getattr(fault, "told", ""))
+            if line:
+                say(line)
         Progress.clear()
-        tell(getattr(fault, "told", ""))
-        if line:
-            say(line)
-        sys.exit(status)
-    finally:
-        Progress.clear()
+        os._exit(status)  # Python would write once more to a standard output that is full
+
+    return run

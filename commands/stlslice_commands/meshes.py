@@ -2,9 +2,9 @@
 once."""
 
 import decimal
-import errno
 import functools
 import io
+import itertools
 import re
 import struct
 import zipfile
@@ -34,6 +34,7 @@ OBJ_UNITS = {"mm": Decimal(1), "cm": Decimal(10), "m": Decimal(1000), "inch": De
 CORE = "http://schemas.microsoft.com/3dmanufacturing/core/2015/02 "
 MODEL = "http://schemas.microsoft.com/3dmanufacturing/2013/01/3dmodel"
 UNITS = {"micron": "0.001", "millimeter": "1", "centimeter": "10", "inch": "25.4", "foot": "304.8", "meter": "1000"}
+CORNERS = re.compile("[0-9]{1,9} [0-9]{1,9} [0-9]{1,9}")  # the indices of a triangle
 IDENTITY = "1 0 0 0 1 0 0 0 1 0 0 0"
 # Files in which slicers say that a part of a mesh is none of the body.
 NO_BODY = re.compile(rb"ParameterModifier|NegativeVolume|Support(?:Enforcer|Blocker)|"
@@ -44,6 +45,7 @@ DIRECTORY = 1 << 20  # bytes of a zip's list of entries
 NESTED, DEEPEST = 64, 16  # elements of XML, and components, in each other
 TRANSFORM = 40  # bytes of a number of a transform
 PLACED = 100  # facets that take as long as placing an object
+DAMAGED = (zipfile.BadZipFile, zlib.error, struct.error, expat.ExpatError, EOFError, RuntimeError, ValueError, LookupError)
 
 
 class NotTaken(Exception):
@@ -73,35 +75,40 @@ class Points:
         return self.rounded
 
 
-def read(kind, file, given):
+def read(kind, data, given):
     """The points and triangles of an OBJ or a 3MF."""
     if kind == "OBJ":
-        return read_obj(file, given.unit)
+        return read_obj(data, given.unit)
     if given.unit != "mm":
         raise Refused("a 3MF has a unit of its own: leave out --unit", 2)
     # of more facets the library takes no mesh, but shells of a larger one
-    return read_3mf(file, 16 * FACETS if getattr(given, "shells", False) else FACETS)
+    return read_3mf(data, 16 * FACETS if getattr(given, "shells", False) else FACETS)
 
 
 def number(word):
     """A number, as it is written."""
     if len(word) > LONGEST or not NUMBER.fullmatch(word):
-        raise ValueError(f"{word[:20].decode(errors='replace')!r} is {'too long' if len(word) > LONGEST else 'not a number'}")
+        raise ValueError(f"{front(word)!r} is {'too long' if len(word) > LONGEST else 'not a number'}")
     return EXACT.create_decimal(word.decode())
 
 
-def read_obj(file, unit):
+def front(word):
+    """As much of a word as a line tells."""
+    return word[:20].decode(errors="replace")
+
+
+def read_obj(data, unit):
     """The points and triangles of an OBJ, its `v` and `f`, whose numbers are of this unit. A polygon that is flat and convex is
     cut into triangles from its first corner."""
     points, triangles, times = Points(), array("I"), OBJ_UNITS[unit]
-    for at, (word, *words) in lines_of(file):
+    for at, (word, *words) in lines_of(io.BytesIO(data)):
         try:
             if word == b"v":
                 points.add([coordinate(it, times) for it in (*words, b"", b"", b"")[:3]])
             elif word == b"f":
                 triangles.extend(fan(points.whole(), [index(it, len(points)) for it in words]))
             elif word not in IGNORED:
-                raise NotTaken(f"{word[:20].decode(errors='replace')} isn't taken")
+                raise NotTaken(f"{front(word)} isn't taken")
         except NotTaken as fault:
             raise NotTaken(f"line {at:,} of the OBJ: {fault}")
         except ValueError as fault:
@@ -111,8 +118,8 @@ def read_obj(file, unit):
 
 def lines_of(file):
     """The words of each line that has some, with its number. A line may go on after a backslash."""
-    held, at = b"", 0
-    for at, line in enumerate(file, 1):
+    held = b""
+    for at, line in enumerate(itertools.chain(file, [b"\n"]), 1):
         if len(held) + len(line) > LINE:
             raise Refused(f"line {at:,} of the OBJ has more than {LINE:,} bytes", 3)
         held += line.partition(b"#")[0].rstrip()
@@ -124,8 +131,6 @@ def lines_of(file):
         held = b""
         if at % 4096 == 0:
             Progress.show(f"reading: line {at:,}")
-    if held.split():
-        yield at, held.split()
 
 
 def coordinate(word, times):
@@ -134,7 +139,7 @@ def coordinate(word, times):
         raise ValueError("v has fewer than three numbers")
     found = EXACT.multiply(number(word), times)
     if not abs(found) < FAR:
-        raise ValueError(f"{word[:20].decode()!r} is out of range")
+        raise ValueError(f"{front(word)!r} is out of range")
     return found
 
 
@@ -144,7 +149,7 @@ def index(word, count):
     number = int(found[1]) if found else 0
     at = number - 1 if number > 0 else count + number
     if not number or not 0 <= at < count:
-        raise ValueError(f"there is no point {word[:20].decode(errors='replace')!r}")
+        raise ValueError(f"there is no point {front(word)!r}")
     return at
 
 
@@ -154,34 +159,33 @@ def fan(points, corners):
         raise ValueError("a face has fewer than three corners")
     if len(corners) > 3 and not is_fan([tuple(points[3 * at:3 * at + 3]) for at in corners]):
         raise NotTaken("a face isn't flat and convex")
-    return [at for k in range(1, len(corners) - 1) for at in (corners[0], corners[k], corners[k + 1])]
+    return [at for pair in zip(corners[1:], corners[2:]) for at in (corners[0], *pair)]
 
 
 def is_fan(corners):
-    """Whether a polygon is flat and convex, but for FLAT micrometres."""
-    ahead = corners[1:] + corners[:1]
-    edges = [(x - a, y - b, z - c) for (a, b, c), (x, y, z) in zip(corners, ahead)]
+    """Whether a polygon is flat and convex, but for FLAT micrometres: all corners lie in a plane, each three in a row turn to the
+    left, and so do the triangles of the fan. Those of four corners are turns already."""
     first = corners[0]
-    spokes = [(x - first[0], y - first[1], z - first[2]) for x, y, z in corners[1:]]
-    sides = [cross(one, other) for one, other in zip(spokes, spokes[1:])]
-    normal = tuple(map(sum, zip(*sides)))
+    triangles = [(first, *pair) for pair in zip(corners[1:], corners[2:])]
+    turns = list(zip(corners, corners[1:] + corners[:1], corners[2:] + corners[:2]))
+    normal = tuple(map(sum, zip(*(normal_of(*it) for it in triangles))))
     slack = FLAT ** 2 * dot(normal, normal)
-    if not slack or any(dot(normal, spoke) ** 2 > slack for spoke in spokes):
-        return False
-    # each turn is to the left, and so is each triangle of the fan
-    turns = zip(edges, edges[1:] + edges[:1])
-    return (all(is_left(normal, slack, cross(*it), it) for it in turns)
-            and (len(corners) == 4
-                 or all(is_left(normal, slack, side, it) for side, it in zip(sides, zip(spokes, edges[1:])))))
+    return (slack > 0 and all(dot(normal, minus(it, first)) ** 2 <= slack for it in corners)
+            and all(is_left(normal, slack, *it) for it in (turns if len(corners) == 4 else turns + triangles)))
 
 
-def is_left(normal, slack, side, edges):
-    """Whether a side looks as the normal does, or the corner of its two edges lies near the line through their other ends."""
-    left = dot(normal, side)
-    if left >= 0:
-        return True
-    across = tuple(map(sum, zip(*edges)))
-    return left ** 2 <= slack * dot(across, across)
+def is_left(normal, slack, a, b, c):
+    """Whether the way from a over b to c turns to the left, or b is near the line through a and c."""
+    left, across = dot(normal, normal_of(a, b, c)), minus(c, a)
+    return left >= 0 or left ** 2 <= slack * dot(across, across)
+
+
+def normal_of(a, b, c):
+    return cross(minus(b, a), minus(c, a))
+
+
+def minus(a, b):
+    return a[0] - b[0], a[1] - b[1], a[2] - b[2]
 
 
 def dot(a, b):
@@ -192,45 +196,31 @@ def cross(a, b):
     return a[1] * b[2] - a[2] * b[1], a[2] * b[0] - a[0] * b[2], a[0] * b[1] - a[1] * b[0]
 
 
-DAMAGED = (zipfile.BadZipFile, zlib.error, struct.error, expat.ExpatError, EOFError, RuntimeError, ValueError, KeyError,
-           OverflowError, OSError)
-
-
-def read_3mf(file, most):
+def read_3mf(data, most):
     """The points and triangles of a 3MF's build items, by its core specification 1. At most so many facets are taken."""
     try:
-        refuse_large_directory(file)
-        with zipfile.ZipFile(file) as archive:
-            refuse_what_is_no_body(archive)
+        refuse_large_directory(data)
+        with zipfile.ZipFile(io.BytesIO(data)) as archive:
+            for name in CONFIGS:
+                if name in archive.namelist() and NO_BODY.search(opened(archive, name, SMALL).read()):
+                    raise NotTaken("the 3MF has volumes that are none of the part, such as modifiers")
             model = Model(most)
-            with opened(archive, model_of(archive)) as stream:
-                fed(model.start, model.end, stream)
+            fed(opened(archive, model_of(archive)), model.start, model.end)
         with decimal.localcontext(EXACT):
             return model.placed()
     except DAMAGED as fault:
-        # zipfile seeks where an entry says
-        if isinstance(fault, OSError) and fault.errno != errno.EINVAL:
-            raise
-        told = f"{fault.args[0]} is missing" if isinstance(fault, KeyError) else str(fault)
-        raise Refused(f"the 3MF can't be read: {told[:200]}", 3)
+        why = f"{fault.args[0]} is missing" if isinstance(fault, KeyError) else str(fault)
+        raise Refused(f"the 3MF can't be read: {why[:200]}", 3)
 
 
-def refuse_large_directory(file):
-    """The list of a zip's entries is held whole, so its size is looked at before."""
-    size = file.seek(0, io.SEEK_END)
-    file.seek(max(0, size - 65_557))
-    tail = file.read()
-    at = tail.rfind(b"PK\5\6")
-    if at < 0 or len(tail) - at < 22:
+def refuse_large_directory(data):
+    """The list of a zip's entries is held whole, so its size is looked at before: in the zip's last record, or one of zip64."""
+    at = data.rfind(b"PK\5\6", max(0, len(data) - 65_557))
+    if at < 0 or len(data) - at < 22:
         raise zipfile.BadZipFile("it is cut, or no zip")
-    if struct.unpack_from("<I", tail, at + 12)[0] > DIRECTORY:
+    size = data[at - 36:at - 28] if data[at - 20:at - 16] == b"PK\6\7" else data[at + 12:at + 16]
+    if int.from_bytes(size, "little") > DIRECTORY:
         raise ValueError(f"its list of entries has more than {DIRECTORY:,} bytes")
-
-
-def refuse_what_is_no_body(archive):
-    for name in CONFIGS:
-        if name in archive.namelist() and NO_BODY.search(opened(archive, name, SMALL).read()):
-            raise NotTaken("the 3MF has volumes that are none of the part, such as modifiers")
 
 
 def model_of(archive):
@@ -241,8 +231,7 @@ def model_of(archive):
         if name.endswith("Relationship") and words.get("Type") == MODEL:
             found.append(words["Target"].lstrip("/"))
 
-    with opened(archive, "_rels/.rels", LINE) as stream:
-        fed(start, lambda name: None, stream)
+    fed(opened(archive, "_rels/.rels", LINE), start)
     if len(found) != 1:
         raise ValueError("its relationships name no model, or several")
     return found[0]
@@ -261,27 +250,21 @@ def opened(archive, name, most=LARGEST):
     return archive.open(it)
 
 
-def fed(start, end, stream):
+def fed(stream, start, end=lambda name: None):
     """Calls `start` and `end` for each element of the XML. A document type, and with it entities, is refused."""
-    def doctype(*_):
-        raise ValueError("its XML has a document type")
-
-    depth = 0
+    above, count, parser = [], 0, expat.ParserCreate(namespace_separator=" ")
 
     def began(name, words):
-        nonlocal depth
-        depth += 1
-        if depth > NESTED:
+        above.append(name)
+        if len(above) > NESTED:
             raise ValueError("its XML is nested too deeply")
         start(name, words)
 
-    def ended(name):
-        nonlocal depth
-        depth -= 1
-        end(name)
+    def doctype(*_):
+        raise ValueError("its XML has a document type")
 
-    parser, count = expat.ParserCreate(namespace_separator=" "), 0
-    parser.StartElementHandler, parser.EndElementHandler, parser.StartDoctypeDeclHandler = began, ended, doctype
+    parser.StartElementHandler, parser.StartDoctypeDeclHandler = began, doctype
+    parser.EndElementHandler = lambda _: end(above.pop())
     for block in iter(lambda: stream.read(BLOCK >> 4), b""):
         count += len(block)
         parser.Parse(block)
@@ -295,20 +278,12 @@ class Model:
     """The objects of a 3MF's model and what is to be built of them."""
 
     def __init__(self, most):
-        self.most = most
-        self.unit = None
-        self.objects = {}
-        self.items = Object("", "model", most)
-        self.object = None
+        self.most, self.unit, self.objects, self.object, self.items = most, None, {}, None, Object("", "model", most)
 
     def start(self, name, words):
-        if not name.startswith(CORE):
-            if self.unit is None:
-                raise ValueError("its model is none of the core specification 1")
-            return
-        kind = name[len(CORE):]
+        kind = name[len(CORE):] if name.startswith(CORE) else None
         if self.unit is None and kind != "model":
-            raise ValueError("its XML is no model")
+            raise ValueError("its model is none of the core specification 1")
         if kind in ("vertex", "triangle", "component") and not self.object:
             raise ValueError(f"it has a {kind} outside an object")
         getattr(self, f"take_{kind}", lambda _: None)(words)
@@ -332,17 +307,17 @@ class Model:
         self.object = self.objects[words["id"]] = Object(words["id"], words.get("type", "model"), self.most)
 
     def take_vertex(self, words):
-        places = [words[axis].split() for axis in "xyz"]
+        places = [words[axis].encode().split() for axis in "xyz"]
         if any(len(it) != 1 for it in places):
             raise ValueError("a vertex has a coordinate that is not a number")
         self.object.points += 1
-        self.object.lines += " ".join(it[0] for it in places).encode() + b"\n"
+        self.object.lines += b" ".join(it[0] for it in places) + b"\n"
 
     def take_triangle(self, words):
-        corners = words["v1"], words["v2"], words["v3"]
-        if "_" in "".join(corners):
+        corners = " ".join(words[it].strip(" ") for it in ("v1", "v2", "v3"))
+        if not CORNERS.fullmatch(corners):
             raise ValueError("a triangle has an index that is no number")
-        self.object.triangles.extend(map(int, corners))
+        self.object.triangles.extend(map(int, corners.split()))
         self.object.cost += 1
 
     def take_component(self, words):
@@ -354,7 +329,7 @@ class Model:
 
     def known(self, words):
         """The object that is meant. It stands before what refers to it, so that none holds itself."""
-        found = self.objects[words["objectid"]] if words["objectid"] in self.objects else None
+        found = self.objects.get(words["objectid"])
         if not found or found is self.object:
             raise ValueError(f"there is no object {words['objectid'][:20]} before what refers to it")
         if found.type not in ("model", "solidsupport", "support"):
@@ -393,10 +368,9 @@ class Object:
             if not all(abs(it) < FAR for it in point):
                 raise ValueError(f"object {self.id} reaches beyond 128 m from the origin")
             points.add(point)
-        corners = self.triangles
-        if is_mirror(matrix):
-            corners = array("I", corners)
-            corners[1::3], corners[2::3] = self.triangles[2::3], self.triangles[1::3]
+        corners = array("I", self.triangles)
+        if volume(matrix) < 0:
+            corners[1::3], corners[2::3] = corners[2::3], corners[1::3]
         triangles.extend(first + at for at in corners)
         for other, within in self.components:
             other.place(product(within, matrix), points, triangles)
@@ -408,12 +382,16 @@ def matrix_of(text):
     words = text.encode().split()
     if len(words) != 12 or max(map(len, words)) > TRANSFORM:
         raise ValueError(f"a transform hasn't twelve numbers of at most {TRANSFORM} bytes")
-    words = list(map(number, words))
-    found = [words[k:k + 3] for k in (0, 3, 6, 9)]
+    found = [list(map(number, words[k:k + 3])) for k in (0, 3, 6, 9)]
     with decimal.localcontext(EXACT):
-        if not dot(cross(*found[:2]), found[2]):
+        if not volume(found):
             raise ValueError("a transform makes an object flat")
     return found
+
+
+def volume(matrix):
+    """By how much a transform multiplies volumes: below 0 if it makes mirror images."""
+    return dot(cross(*matrix[:2]), matrix[2])
 
 
 def product(one, other):
@@ -421,7 +399,3 @@ def product(one, other):
     rows = [[dot(row, column) for column in zip(*other[:3])] for row in one]
     rows[3] = [a + b for a, b in zip(rows[3], other[3])]
     return rows
-
-
-def is_mirror(matrix):
-    return dot(cross(*matrix[:2]), matrix[2]) < 0

@@ -3,13 +3,16 @@
 The page has the images that stlslice writes, a slider and the areas over the height, and asks no network.
 """
 
+import base64
 import html
 import json
 import os
 import re
+import zlib
 
 from . import words
-from .faults import as_json, ended, finish, in_mm, look_at_output, shown, whole_file
+from .faults import Progress, Refused, answers, command, finish, in_mm, look_at_output, shown, whole_file
+from .images import DATA, png_of
 
 PAGE = os.path.join(os.path.dirname(os.path.abspath(__file__)), "page.html")
 
@@ -18,11 +21,58 @@ def words_given():
     made = words.shared("Slices a part into one page of HTML that shows its layers, for any browser.", "the page to write, as page.html")
     add = made.add_argument
     add("--pitch", type=words.micrometres, default=50, metavar="N", help="width and depth of a pixel in micrometres (%(default)s)")
-    add("--layer", type=words.micrometres, default=50, metavar="N", help="height of a layer in micrometres (%(default)s)")
     add("--canvas", type=words.canvas, metavar="COLUMNSxROWS",
         help="pixels of a printer's screen, with the part in its middle (without it: the grid that fits the part)")
     add("--title", metavar="TEXT", help="the page's heading (the file's name)")
     return made.parse_args()
+
+
+class Layers:
+    """The layers of a part on a canvas: the images of its box there, each kept once, and for each layer the number of its image
+    and how many of its pixels are filled."""
+
+    def __init__(self, given):
+        import stlslice  # only here, so that what is wrong is told at once
+        from .parts import Part, size_of
+        part = Part(given)
+        how = {"pitch": given.pitch, "layer": given.layer, "rule": given.rule}
+        try:
+            self.mesh, = part.open(canvas=given.canvas, **how) if given.canvas else part.open(**how)
+        except stlslice.FitFault:
+            sides = [count * given.pitch for count in given.canvas]
+            raise Refused(f"the part doesn't fit: it is {in_mm(size_of(part.box()))} mm, the canvas {in_mm(sides)} mm")
+        self.given, self.size, (self.count, self.rows, self.columns) = given, size_of(self.mesh.box), self.mesh.shape
+        Progress.show("slicing", is_new=True)
+        self.areas, = answers(self.mesh.areas)
+        if not any(self.areas):
+            part.refuse_unlit(given.rule, self.size)
+        self.part = [0, 0, self.columns, self.rows]  # of an image: its place on the canvas, from the top left, and its size
+        if given.canvas:
+            self.mesh, = part.open(grid=self.grid(), **how)
+        numbers = {}
+        self.numbers = [numbers.setdefault(png, len(numbers)) for png in self.pngs()]
+        self.images = [base64.b64encode(png).decode("ascii") for png in numbers]
+
+    def grid(self):
+        """The grid of the columns and rows of the canvas that the part's box reaches."""
+        pitch, box, (x, y, z) = self.given.pitch, self.mesh.box, self.mesh.origin
+        left, below = (max(0, (low - corner) // pitch) for low, corner in zip(box.low, (x, y)))
+        right, above = (min(count, -(-(high - corner) // pitch))
+                        for high, corner, count in zip(box.high, (x, y), (self.columns, self.rows)))
+        self.part = [left, self.rows - above, right - left, above - below]
+        return (*self.part[2:], self.count, x + left * pitch, y + below * pitch, z)
+
+    def pngs(self):
+        """The image of each layer, deflated as small as can be."""
+        last, png = None, None
+        for made in Progress.through(self.mesh.pngs(depth=1, workers=self.given.workers), self.count):
+            if made != last:
+                last, png = made, png_of(self.part[2:], 1, zlib.compress(zlib.decompress(made[DATA]), 9))
+            yield png
+
+    def volume(self):
+        """In millilitres."""
+        return sum(self.areas) * self.given.pitch ** 2 * self.given.layer / 1e12
 
 
 def page_of(given, layers):
@@ -36,19 +86,12 @@ def page_of(given, layers):
         return re.sub("@(TITLE|ABOUT|DATA)@", lambda it: parts[it[1]], file.read())
 
 
-def main():
+@command
+def run():
     given = words_given()
     look_at_output(given.output, given.part)
     with whole_file(given.output) as file:
-        from .layers import Layers  # only here, so that what is wrong is told at once
         layers = Layers(given)
-        layers.slice()
         size = file.write(page_of(given, layers).encode())
-        line = shown(f"{given.output}: {layers.count} layers, {layers.volume():.3f} ml, {-(-size // 1000)} kB")
-        if given.json:
-            line = as_json(given.output, layers.count, layers.size, layers.volume(), bytes=size)
-        finish(given.output, line, file)
-
-
-def run():
-    ended(main)
+        line = f"{layers.count} layers, {layers.volume():.3f} ml, {-(-size // 1000)} kB"
+        finish(given, line, file, layers.count, layers.size, layers.volume(), bytes=size)

@@ -1,27 +1,14 @@
 """What people have: an STL, ASCII or binary, an OBJ, a 3MF, or another format, which is refused with the command that converts it."""
 
-import io
-import itertools
-import os
 import re
-import shlex
 import sys
 from functools import partial
 
 import stlslice
 
-from .faults import Progress, Refused, answers, named, say
+from . import formats
+from .faults import Progress, Refused, answers, in_mm, named, say
 
-# What makes an STL of each format that isn't one; each was tried. {0} is the file, {1} the STL to make.
-PRUSASLICER = "prusa-slicer --export-stl --output {1} {0}"
-ASSIMP = "assimp export {0} {1}"
-CONVERTED = {"3MF": PRUSASLICER, "zip": "unzip {0}", "gzip": "zcat {0} > {1}"}  # others by ASSIMP
-KINDS = {
-    "PLY": re.compile(rb"ply\s"),
-    "OFF": re.compile(rb"(?:\s|#[^\n]*\n)*(?:ST)?C?N?4?n?OFF\s"),
-    "OBJ": re.compile(rb"(?:\s|#[^\n]*\n)*(?:v|vn|vt|vp|f|o|g|s|mtllib|usemtl)[ \t]"),
-    "AMF": re.compile(rb"(?:\xef\xbb\xbf)?\s*(?:<[?!][^>]*>\s*)*<amf[\s>]"),
-}
 TOO_MANY = "too many facets"
 SHELLS = "a mesh has at most 1,048,576 facets; --shells slices a larger part shell by shell, if it has several"
 OPEN = 4  # the library's status if a mesh is open
@@ -29,13 +16,16 @@ ONE_VOXEL = {"pitch": 1000, "layer": 1000, "grid": (1, 1, 1, 0, 0, 0)}
 
 
 class Part:
-    """A part that was read, and can be opened: as one mesh, or with --shells as one for each group of its shells."""
+    """A part that was read, and can be opened: as one mesh, or with --shells as one for each group of its shells. `unit` is the one
+    that was given for its numbers, or None if the file has its own."""
 
     def __init__(self, given):
         Progress.show("reading", is_new=True)
         self.shells = getattr(given, "shells", None)  # None if there is no such option
         data = read(given.part)
-        arrays = arrays_of(data, given)
+        kind = kind_of(data)
+        self.unit = None if kind == "3MF" else given.unit
+        arrays = arrays_of(kind, data, given) if kind else None
         if self.shells:
             from .shells import facets_of, grouped  # only here, since each start reads what it imports anew
             facets = facets_of(*arrays) if arrays else self.asked(partial(stlslice.read, data, given.unit))[0]
@@ -67,6 +57,11 @@ class Part:
             is_large = TOO_MANY in str(fault)
             raise Refused(SHELLS if is_large and self.shells is False else None, 3 if is_large else fault.status, fault.line + "\n")
 
+    def refuse_unlit(self, rule, size):
+        or_unit = f", or its unit another than {self.unit}" if self.unit else ""
+        raise Refused(f"no pixel is lit by --rule {rule}: is the part inside out (try --rule nonzero){or_unit}? "
+                      f"It is {in_mm(size)} mm")
+
 
 def size_of(box):
     return [after - before for before, after in zip(box.low, box.high)]
@@ -91,50 +86,28 @@ def read(path):
         return sys.stdin.buffer.raw.read()
 
 
-def arrays_of(data, given):
-    """The points and triangles of an OBJ or a 3MF, or None if the bytes may be an STL. Those of another format are refused."""
+def kind_of(data):
+    """The format of a part, or None if it may be an STL. What is neither text nor a whole binary STL is refused."""
     head, size = data[:1024], len(data)
-    count = int.from_bytes(head[80:84], "little")
-    if size >= 84 and size == 84 + 50 * count:
+    if formats.is_binary(size, head):
         return None
-    kind = kind_of(head)
-    name = "part." + kind.lower() if kind and given.part == "-" else given.part
-    if kind in ("OBJ", "3MF"):
-        from . import meshes
-        try:
-            return meshes.read(kind, io.BytesIO(data), given)
-        except meshes.NotTaken as fault:
-            raise Refused(f"{fault}; convert it: {command_for(kind, name)}", 3)
-    if kind:
-        raise Refused(f"the part is {kind}, not STL; {'unpack' if 'zip' in kind else 'convert'} it: {command_for(kind, name)}", 3)
+    kind = formats.kind_of(head)
     # a binary STL has a 0 there, in its count of facets at the latest
-    if b"\0" in head[:84] and not head.startswith((b"\xff\xfe", b"\xfe\xff")) and size >= 84:
+    if not kind and b"\0" in head[:84] and not head.startswith((b"\xff\xfe", b"\xfe\xff")) and size >= 84:
+        count = int.from_bytes(head[80:84], "little")
         raise Refused(f"the part is no text, and no whole binary STL: its header counts {count:,} facets, which take "
                       f"{84 + 50 * count:,} bytes, and it has {size:,}", 3)
-    return None
+    return kind
 
 
-def command_for(kind, name):
-    """The command that makes an STL of a file. The tools that convert take the format from the name's ending, so a file with
-    another ending is copied first."""
-    stem, copied = re.sub(r"(?i)(\.stl)?\.\w+$", "", name), ""
-    if "zip" not in kind and not name.lower().endswith("." + kind.lower()):
-        other = free_name(stem, "." + kind.lower())
-        copied, name = f"cp {shlex.quote(name)} {shlex.quote(other)} && ", other
-    return copied + CONVERTED.get(kind, ASSIMP).format(shlex.quote(name), shlex.quote(free_name(stem, ".stl")))
-
-
-def free_name(stem, ending):
-    """A name that no file has yet: a pasted command may not write over a part."""
-    names = itertools.chain([stem], (f"{stem}-{k}" for k in itertools.count(2)))
-    return next(name + ending for name in names if not os.path.lexists(name + ending))
-
-
-def kind_of(head):
-    """The format whose files begin so, or None if it is none of these."""
-    if head.startswith(b"PK\x03\x04"):
-        # a 3MF is a zip whose first file is one of these
-        return "3MF" if any(word in head[:128] for word in (b"[Content_Types].xml", b"_rels/", b"3D/", b"Metadata/")) else "zip"
-    if head.startswith(b"\x1f\x8b"):
-        return "gzip"
-    return next((kind for kind, begin in KINDS.items() if begin.match(head)), None)
+def arrays_of(kind, data, given):
+    """The points and triangles of an OBJ or a 3MF. Those of another format are refused, with the command that converts them."""
+    name = "part." + kind.lower() if given.part == "-" else given.part
+    advice = f"{'unpack' if kind in ('zip', 'gzip') else 'convert'} it: {formats.command_for(kind, name)}"
+    if kind not in ("OBJ", "3MF"):
+        raise Refused(f"the part is {kind}, not STL; {advice}", 3)
+    from . import meshes  # only here, since each start reads what it imports anew
+    try:
+        return meshes.read(kind, data, given)
+    except meshes.NotTaken as fault:
+        raise Refused(f"{fault}; {advice}", 3)

@@ -3,16 +3,17 @@
 import os
 
 from . import words
-from .faults import Refused, aside, ended, finish, named
+from .faults import Refused, aside, command, named
 
 ABOUT = """Slices a part into a folder of PNGs, one a layer: NAME/00000.png is the lowest. The part stands in the middle
 of the screen, white on black; one that doesn't fit is refused. The folder must be new or empty; it is made aside and
 moved into place when it is whole."""
 
 
-def main():
+@command
+def run():
     given = words.read(words.parser(ABOUT, "the folder to make"))
-    folder = given.output.rstrip("/") or "/"
+    folder = given.output = given.output.rstrip("/") or "/"
     if folder == "-":
         raise Refused("a folder can't be standard output; stlslice --png writes all layers there, and ./- is a folder's name")
     if os.path.realpath(folder) == os.path.realpath(os.curdir):
@@ -28,9 +29,5 @@ def main():
         for number, (png, _) in enumerate(sliced.pngs()):
             with named(folder), open(os.path.join(path, f"{number:05}.png"), "xb") as file:
                 file.write(png)
-        finish(folder, sliced.told(folder))
+        sliced.finish()
         os.rename(path, folder)
-
-
-def run():
-    ended(main)

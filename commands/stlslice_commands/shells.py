@@ -1,5 +1,6 @@
 """A part of many facets as several meshes of whole shells, each small enough for the library."""
 
+import itertools
 from array import array
 
 from .faults import Progress, Refused
@@ -19,19 +20,15 @@ def grouped(facets):
     shell are in one group, in their order. Facets belong to one shell if they share a corner. Last come two facets that are to be
     put to each group, so that all stand in one place of a screen: one reaches through the part's box, and the other is the same
     turned round, so no pixel is another."""
-    number_of, points, triangles, above = {}, array("i"), array("I"), array("l")
+    number_of, triangles, above = {}, array("I"), array("l")
     for facet in in_blocks(facets):
-        corners = []
-        for corner in map(tuple, facet):
-            number = number_of.setdefault(corner, len(number_of))
-            if number == len(above):
-                points.extend(corner)
-                above.append(number)
-            corners.append(number)
+        corners = [number_of.setdefault(tuple(it), len(number_of)) for it in facet]
         triangles.extend(corners)
+        above.extend(range(len(above), len(number_of)))
         one = root(above, corners[0])
         for it in corners[1:]:
             above[root(above, it)] = one
+    points = array("i", itertools.chain.from_iterable(number_of))
     del number_of
     if not triangles:
         raise Refused("the part has no facets")
@@ -66,7 +63,7 @@ def packed(shell_of):
         sizes[shell] = sizes.get(shell, 0) + 1
     for shell, size in sizes.items():
         if size > LIMIT:
-            raise Refused(f"the part has a shell of {size:,} facets, and a mesh has at most {LIMIT:,}: export it coarser", 3)
+            raise Refused(f"the part has a shell of {size:,} facets, and --shells takes at most {LIMIT:,}: export it coarser", 3)
         number = next((k for k, left in enumerate(room) if left >= size), len(room))
         if number == len(room):
             room.append(LIMIT)

@@ -7,7 +7,7 @@ import time
 import zipfile
 
 from . import words
-from .faults import Refused, ended, finish, look_at_output, say, shown, whole_file
+from .faults import Refused, command, look_at_output, say, shown, whole_file
 
 ABOUT = """Slices a part into an SL1 archive for a resin printer. The part stands in the middle of the screen, white on
 black; one that doesn't fit is refused. The archive is made aside and moved into place when it is whole, so a fault
@@ -27,7 +27,8 @@ class Defaults:
     fast_tilt, slow_tilt, area_fill = 5.0, 8.0, 50
 
 
-def main():
+@command
+def run():
     parser = words.parser(ABOUT, "the archive to write, as out.sl1")
     add = parser.add_argument
     add("--exposure", type=SECONDS, metavar="S",
@@ -44,7 +45,7 @@ def main():
         sliced = Sliced(given)
         with zipfile.ZipFile(file, "w") as archive:
             duration = fill(archive, sliced, job_name(given.output), now)
-        finish(given.output, sliced.told(given.output, seconds=round(duration, 1)), file)
+        sliced.finish(file, seconds=round(duration, 1))
 
 
 def fill_in(given):
@@ -166,7 +167,3 @@ def job_name(output):
     """The archive's name without its ending and without what isn't a letter, a digit, `_`, `-` or `.`."""
     name = re.sub(r"\.sl1s?$|^-$", "", os.path.basename(output), flags=re.IGNORECASE)
     return re.sub(r"[^\w.-]", "_", name) or "part"
-
-
-def run():
-    ended(main)

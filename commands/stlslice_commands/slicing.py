@@ -8,7 +8,7 @@ from functools import partial
 
 import stlslice
 
-from .faults import Progress, Refused, answers, as_json, in_mm, say, shown
+from .faults import Progress, Refused, answers, finish, in_mm, say
 from .parts import OPEN, Part, size_of
 
 
@@ -16,39 +16,45 @@ class Sliced:
     """A part on a screen: its size in micrometres, how many layers it has, and their images."""
 
     def __init__(self, given):
-        self.given = given
-        self.meshes = self.placed(Part(given))
+        self.given, self.part, self.size = given, Part(given), None
+        self.meshes = self.placed()
         self.layers = len(self.meshes[0])
         self.lit = 0
         self.areas = self.areas_of_lit()
 
-    def placed(self, part):
+    def placed(self):
         """The meshes of the part on the screen. It is turned by a quarter for a screen in portrait, and by one more if that was
         asked for. A part that doesn't fit so is refused."""
-        given = self.given
-        usual = 1 if given.printer and given.printer.is_portrait else 0
-        more = 1 if given.turn == "" else 0
-        how = {"canvas": given.canvas, "pitch": given.pitch, "layer": given.layer, "rule": given.rule}
+        usual = 1 if self.given.printer and self.given.printer.is_portrait else 0
+        more = 1 if self.given.turn == "" else 0
+        meshes = self.opened(usual + more)
+        if not meshes and self.given.turn == "auto":
+            meshes = self.opened(usual + 1)
+            if meshes:
+                say("the part is turned by a quarter: it fits only so")
+        if not meshes:
+            self.refuse_large(usual, more)
+        return meshes
+
+    def opened(self, quarters):
+        """The meshes of the part that is turned so, or none if it doesn't fit."""
+        given, meshes = self.given, []
         try:
-            meshes = part.open(turn=usual + more, **how)
+            meshes = self.part.open(canvas=given.canvas, pitch=given.pitch, layer=given.layer, rule=given.rule, turn=quarters)
         except stlslice.FitFault:
-            meshes = []
+            pass
         except Refused as fault:
             if fault.status == OPEN:
-                self.ask_for_unit(size_of(part.box()))
+                self.measure(self.part.box())
             raise
-        self.size = size_of(meshes[0].box if meshes else part.box())
-        self.ask_for_unit(self.size)
-        if meshes and not (given.height and self.size[2] > given.height):
-            return meshes
-        if given.turn != "auto" or not self.fits(usual + 1):
-            self.refuse_large(usual, more)
-        say("the part is turned by a quarter: it fits only so")
-        return part.open(turn=usual + 1, **how)
+        self.measure(meshes[0].box if meshes else self.part.box())
+        return [] if given.height and self.size[2] > given.height else meshes
 
-    def ask_for_unit(self, size):
-        if not 1000 <= max(size) <= 1_000_000:
-            say(f"the part is {in_mm(size)} mm: is {self.given.unit} the unit of its numbers? --unit takes mm, cm, m or inch")
+    def measure(self, box):
+        """Asks for the unit of a part that is very small or very large, once."""
+        asked, self.size = self.size, size_of(box)
+        if not asked and self.part.unit and not 1000 <= max(self.size) <= 1_000_000:
+            say(f"the part is {in_mm(self.size)} mm: is {self.part.unit} the unit of its numbers? --unit takes mm, cm, m or inch")
 
     def room(self, quarters):
         """The sides of the screen, and the printer's height if one is known, along the sides of a part that is turned so."""
@@ -80,7 +86,7 @@ class Sliced:
         areas, *others = self.areas_by(rule, *others)
         totals, *other_totals = [list(map(sum, it)) for it in (areas, *others)]
         if not any(totals):
-            refuse_unlit(self.given, self.size)
+            self.part.refuse_unlit(rule, self.size)
         # What `nonzero` lights and `positive` doesn't is enclosed more often inwards than outwards. Images of several meshes can't be
         # joined then, since an overlap with another mesh may be dark.
         if others and other_totals != [totals]:
@@ -108,14 +114,8 @@ class Sliced:
         width, depth = self.given.pitch
         return float(pixels * width * depth * self.given.layer / 10 ** 12)
 
-    def told(self, output, **more):
-        """The last line; for `--json` with more than the plain one has."""
+    def finish(self, file=None, **more):
+        """Writes the last line, and what goes to standard output."""
         volume = self.millilitres(self.lit)
-        if self.given.json:
-            return as_json(output, self.layers, self.size, volume, **more)
-        return shown(f"{output}: {in_mm(self.size)} mm, {volume:.3f} ml, {self.layers} layers")
-
-
-def refuse_unlit(given, size):
-    raise Refused(f"no pixel is lit by --rule {given.rule}: is the part inside out (try --rule nonzero), or its unit another than "
-                  f"{given.unit}? It is {in_mm(size)} mm")
+        line = f"{in_mm(self.size)} mm, {volume:.3f} ml, {self.layers} layers"
+        finish(self.given, line, file, self.layers, self.size, volume, **more)

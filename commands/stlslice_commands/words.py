@@ -1,20 +1,20 @@
 """The options of the commands."""
 
 import argparse
-import contextlib
 import os
 import re
 import sys
 from fractions import Fraction
 
-MOST_WORKERS = 64
+from .faults import Refused
 
+MOST_WORKERS = 64
 
 
 def taking(told, pattern, value):
     """What reads an option's value: a text of this pattern, by a function that returns None for one that isn't taken."""
     def read(text):
-        found = value(text) if re.fullmatch(pattern, text) else None
+        found = value(text) if re.fullmatch(pattern, text, re.ASCII) else None
         if found is None:
             raise argparse.ArgumentTypeError(f"it takes {told}")
         return found
@@ -49,11 +49,9 @@ def processors():
 
 
 class Parser(argparse.ArgumentParser):
-    """A parser whose status stays the same if standard error is full, as that of newer Pythons does by itself."""
-
-    def _print_message(self, message, file=None):
-        with contextlib.suppress(OSError):
-            super()._print_message(message, file)
+    def error(self, message):
+        """Ends as argparse does by itself, with the same status also if standard error is full."""
+        raise Refused(f"error: {message}", 2, self.format_usage())
 
 
 class Listing(argparse.Action):
@@ -80,6 +78,7 @@ def shared(description, output):
     add("output", type=nonempty, help=output)
     add("--rule", default="positive", choices=["evenodd", "nonzero", "positive"],
         help="which pixels are lit (%(default)s, which joins shells that overlap, as supports do)")
+    add("--layer", type=micrometres, default=50, metavar="N", help="height of a layer in micrometres (%(default)s)")
     add("--unit", default="mm", choices=["mm", "cm", "m", "inch"], help="unit of the part's numbers (%(default)s)")
     add("--workers", type=workers, default=processors(), metavar="N", help="threads of the slicer, 1 to 64 (%(default)s)")
     add("--json", action="store_true", help="write the last line as JSON")
@@ -95,7 +94,6 @@ def parser(description, output):
     add("--canvas", type=canvas, metavar="COLUMNSxROWS", help="pixels of the screen, as its images have them")
     add("--pitch", type=pitch, metavar="N",
         help="a pixel in micrometres: 50, 47.25, or 19x24 for width and depth in the image, after any turn")
-    add("--layer", type=micrometres, default=50, metavar="N", help="height of a layer in micrometres (%(default)s)")
     add("--height", type=millimetres, metavar="MM", help="the printer's height in mm; a higher part is refused")
     add("--turn", type=turn, metavar="[auto]",
         help="turn the part by a quarter, counterclockwise from above; 'auto' does so only if it doesn't fit otherwise, and says so")

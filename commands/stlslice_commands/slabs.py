@@ -1,0 +1,233 @@
+"""`stlslice-slabs`: a part slab by slab, by the program and GNU parallel, which shows its bar on a terminal.
+
+parallel doesn't look at its own writes, so what it passes on is written here, and counted. The first slab that fails halts all
+others, and its line and status are passed on. With -S its line may be lost if a slab below it still runs. -S needs rsync, and ssh
+without a password.
+"""
+
+import argparse
+import contextlib
+import mmap
+import os
+import re
+import shutil
+import signal
+import subprocess
+import sys
+import tempfile
+import threading
+import time
+from functools import partial
+from shlex import quote
+
+from . import formats, words
+from .faults import BLOCK, Refused, command, look_at_output, pour, remove, undone, whole_file
+
+ABOUT = """Slices an ASCII STL slab by slab, several slabs at once, on this machine or on several over ssh, with GNU parallel.
+The slabs' images, joined, are those of the whole. For layers.pbm - is standard output, written when all slabs are made."""
+USAGE = "%(prog)s [OPTIONS] part.stl layers.pbm\n       %(prog)s [OPTIONS] --words part.stl"
+WHOLE = words.whole(999_999)
+RULE = words.taking("evenodd, nonzero or positive", "evenodd|nonzero|positive", str)
+HOSTS = words.taking("machines, as host1,host2,:", r"[][A-Za-z0-9\\ @%,:/._+=~-]+", str)
+END = re.compile(rb"IEND\xaeB`\x82")  # of a PNG
+
+
+class Parser(words.Parser):
+    def error(self, message):
+        """Ends with one line, as `-p takes a value`."""
+        message = message.replace("expected one argument", "it takes a value")
+        raise Refused(re.sub(r"^argument (\S+): (it )?", r"\1 ", message), 2)
+
+
+def words_given():
+    """The options, and the names of part and output, which may begin with a dash."""
+    made = Parser(description=ABOUT, usage=USAGE, allow_abbrev=False)
+    add = made.add_argument
+    add("-p", dest="pitch", type=WHOLE, default=50, metavar="N", help="pitch in micrometres (%(default)s)")
+    add("-l", dest="layer", type=WHOLE, default=50, metavar="N", help="layer height in micrometres (%(default)s)")
+    add("-n", dest="per", type=WHOLE, default=64, metavar="N", help="layers of a slab (%(default)s)")
+    add("-r", dest="rule", type=RULE, default="evenodd", metavar="RULE", help="evenodd, nonzero or positive (%(default)s)")
+    add("-u", dest="unit", type=words.taking("mm or inch", "mm|inch", str), default="mm", metavar="UNIT",
+        help="mm or inch (%(default)s)")
+    add("-j", dest="jobs", default="100%", metavar="JOBS",
+        help="slabs at once on each machine, as GNU parallel takes it (one for each processor)")
+    add("-S", dest="hosts", type=HOSTS, metavar="HOSTS",
+        help="machines, as GNU parallel takes them: host1,host2,: where : is this one")
+    add("-P", dest="program", metavar="PATH",
+        help="the slicer, here and there (stlslice beside this command, else on PATH; with -S, on PATH)")
+    add("--png", action="store_true", help="write PNGs in place of P4 images, with these of the slicer's options:")
+    add("--depth", type=words.taking("8 or 1", "[81]", str), metavar="N", help="bits of a pixel, 8 or 1 (8)")
+    add("--mirror-x", action="store_true", help="swap left and right")
+    add("--mirror-y", action="store_true", help="swap top and bottom")
+    add("--words", action="store_true", help="only write the slicer's arguments for each slab, a line each")
+    add("names", nargs=argparse.REMAINDER, help=argparse.SUPPRESS)
+    given, unknown = made.parse_known_args()
+    unknown += [it for it in given.names[:1] if it.startswith("-")]
+    if unknown:
+        raise Refused(f"there is no option {unknown[0]}", 2)
+    if len(given.names) != (1 if given.words else 2):
+        raise Refused("it takes part.stl and layers.pbm, or --words and part.stl", 2)
+    if given.names[1:] == [""]:
+        raise Refused("the output has no name", 2)
+    if not given.png and (given.depth or given.mirror_x or given.mirror_y):
+        raise Refused("--depth, --mirror-x and --mirror-y go with --png", 2)
+    given.part, given.output = (*given.names, None)[:2]
+    return given
+
+
+def look_at_part(given):
+    part = given.part
+    if not os.access(part, os.R_OK) or os.path.isdir(part):
+        raise Refused(f"{part} can't be read")
+    if os.path.isfile(part):
+        with open(part, "rb") as file:
+            if formats.is_binary(os.path.getsize(part), file.read(84)):
+                line = formats.command_for("STL", part, "text")
+                raise Refused(f"the part is binary STL, and text is taken; convert it: {line}", 3)
+    elif not given.words:
+        raise Refused(f"{part} is no plain file, and each slab reads the part anew")
+
+
+def slicer_of(given):
+    """The slicer that was named, else the one beside this command or on PATH; with -S the one on PATH, here and there."""
+    beside = os.path.dirname(os.path.realpath(sys.argv[0]))
+    places = [os.path.join(beside, "stlslice"), "stlslice", os.path.join(beside, "../build/stlslice")]
+    missing = "stlslice is neither beside this command nor on PATH; -P says where it is"
+    if given.program:
+        places, missing = [given.program], f"no program at {given.program}"
+    elif given.hosts:
+        places, missing = ["stlslice"], "stlslice is not on PATH; -P says where it is, here and there"
+    found = next(filter(shutil.which, places), None)
+    if not found:
+        raise Refused(missing)
+    return os.path.realpath(found) if "/" in found else found
+
+
+class Slabs:
+    """The slicer's words for each slab; how many layers all slabs have, and how many bytes the P4 image of one."""
+
+    def __init__(self, given, slicer):
+        with open(given.part, "rb") as file:
+            ran = subprocess.run([slicer, "--box", "--unit", given.unit], stdin=file, stdout=subprocess.PIPE, stderr=sys.stderr)
+        if ran.returncode:
+            raise Refused(None, status_of(ran))
+        box = list(map(int, ran.stdout.split()[3:]))
+        if not box:
+            raise Refused("the part has no facets")
+        sides = zip(box[:3], box[3:], (given.pitch, given.pitch, given.layer))
+        columns, rows, self.layers = (max(1, -(-(after - before) // step)) for before, after, step in sides)
+        self.size = len(f"P4\n{columns} {rows}\n") + rows * ((columns + 7) // 8)
+        shared = f"--pitch {given.pitch} --layer {given.layer} --rule {given.rule} --unit {given.unit}"
+        if given.png:
+            shared += " --png" + (f" --depth {given.depth}" if given.depth else "")
+            shared += " --mirror-x" * given.mirror_x + " --mirror-y" * given.mirror_y
+        self.words = [f"{shared} --grid={columns},{rows},{min(given.per, self.layers - k)},"
+                      f"{box[0]},{box[1]},{box[2] + k * given.layer}" for k in range(0, self.layers, given.per)]
+
+    def are_whole(self, given, file):
+        """Whether the images are as many as the layers: P4 images by their bytes, PNGs by their ends."""
+        file.flush()
+        size = os.fstat(file.fileno()).st_size
+        if not given.png or not size:
+            return size == self.layers * self.size
+        with mmap.mmap(file.fileno(), 0, access=mmap.ACCESS_READ) as images:
+            return sum(1 for _ in END.finditer(images)) == self.layers
+
+
+def status_of(ended):
+    """The status of a process, as a shell has it, also of one that a signal ended."""
+    return 128 - ended.returncode if ended.returncode < 0 else ended.returncode
+
+
+@contextlib.contextmanager
+def told(line):
+    """Gives a fault of the system a line before its reason."""
+    try:
+        yield
+    except OSError as fault:
+        raise Refused(f"{line}: {fault.strerror}")
+
+
+def call_of_parallel(given, slicer, slabs, folder):
+    """The call by which GNU parallel runs the slabs, in a folder that has their commands. These are whole, since parallel would find
+    marks of its own, such as {}, in names."""
+    call = ["parallel", "--plain", "--will-cite", "--keep-order", "--null", "--halt", "now,fail=1", "--jobs", given.jobs]
+    if given.hosts:
+        # A copy under a name of its own, relative to the login folder there: --cleanup removes that and never the part.
+        copy = f"stlslice-{os.urandom(8).hex()}.stl"
+        shutil.copyfile(given.part, os.path.join(folder, copy))
+        call += ["--sshlogin", given.hosts, "--basefile", copy, "--cleanup"]
+        files = f"< {copy}"
+    else:
+        # parallel prints what slabs say in their order, so it would leave out the fault of one that ends before one below it
+        files = f"< {quote(os.path.realpath(given.part))} 2>> {quote(os.path.join(folder, 'faults'))}"
+    with open(os.path.join(folder, "commands"), "wb") as file:
+        file.write(b"\0".join(os.fsencode(f"{quote(slicer)} {it} {files}") for it in slabs.words))
+    return [*call, "--arg-file", "commands", *["--bar"] * sys.stderr.isatty()]
+
+
+def passed_on(given, call, folder, file):
+    """Writes what the slabs give. Returns the status of GNU parallel, and what slabs said."""
+    environment = os.environ if given.hosts else {**os.environ, "PARALLEL_SHELL": "/bin/sh"}
+    child = subprocess.Popen(call, cwd=folder, env=environment, stdin=subprocess.DEVNULL, stdout=subprocess.PIPE, stderr=sys.stderr,
+                             bufsize=0, preexec_fn=partial(signal.signal, signal.SIGINT, signal.SIG_IGN))
+    with undone(partial(end, child)):
+        for block in iter(partial(child.stdout.read, BLOCK), b""):
+            file.write(block)
+        child.wait()
+    faults = os.path.join(folder, "faults")
+    with open(faults if os.path.exists(faults) else os.devnull, errors="backslashreplace") as said:
+        return status_of(child), said.read()
+
+
+def end(child):
+    """Ends parallel and its slabs. It hears this as soon as it has begun. What they still write is lost."""
+    def lose():
+        while child.stdout.read(BLOCK):
+            pass
+
+    threading.Thread(target=lose, daemon=True).start()
+    with contextlib.suppress(ProcessLookupError, ChildProcessError):
+        while child.returncode is None and os.waitpid(child.pid, os.WNOHANG)[0] == 0:
+            os.kill(child.pid, signal.SIGTERM)
+            time.sleep(0.5)
+
+
+def make(given, slicer, slabs):
+    """Makes the output, whole or not at all."""
+    place, name = os.environ.get("TMPDIR") or "/tmp", "standard output" if given.output == "-" else given.output
+    with contextlib.ExitStack() as stack:
+        with told(f"the temporary folder {place} can't be used"):
+            folder = tempfile.mkdtemp(dir=place)
+            stack.enter_context(undone(partial(remove, folder)))
+            call = call_of_parallel(given, slicer, slabs, folder)
+        with told(f"{name} can't be written"), whole_file(given.output) as file:
+            status, said = passed_on(given, call, folder, file)
+            if status == 255:
+                raise Refused("GNU parallel or ssh failed", 1, said)
+            if status:
+                line = f"a slab ended with status {status} and no line: is the temporary folder {place} full, or memory short?"
+                raise Refused(None if said or given.hosts else line, status, said)
+            if not slabs.are_whole(given, file):
+                raise Refused(f"{name} can't be written: images of slabs are lost; is the temporary folder {place} full?")
+            look_at_output(given.output, given.part)
+            if given.output == "-":
+                pour(file)
+
+
+@command
+def run():
+    given = words_given()
+    look_at_part(given)
+    slicer = slicer_of(given)
+    slabs = Slabs(given, slicer)
+    if given.words:
+        print("\n".join(slabs.words))
+        return
+    if not shutil.which("parallel"):
+        raise Refused("GNU parallel is missing (Debian: apt-get install parallel)")
+    look_at_output(given.output, given.part)
+    into = os.path.dirname(given.output) or "."
+    if given.output != "-" and not (os.path.isdir(into) and os.access(into, os.W_OK)):
+        raise Refused(f"{given.output} can't be written: no file can be made in {into}")
+    make(given, slicer, slabs)
