@@ -1,4 +1,4 @@
-"""Makes the wheel of a library: it has the Python module too, and for Linux the commands for printing. No other package is needed for it.
+"""Makes the wheel of a library: it has the Python module and the commands for printing too. No other package is needed for it.
 
     wheel_of_library.py VERSION LIBRARY FOLDER
 
@@ -34,8 +34,7 @@ def made(version, library, folder):
     named = "stlslice.dll" if tag.endswith("win_amd64") else "libstlslice.so.1"
     files = {f"stlslice/{named}": library, f"{info}/LICENSE": os.path.join(HERE, "..", "LICENSE")}
     files.update((f"stlslice/{name}", os.path.join(HERE, "stlslice", name)) for name in ("__init__.py", "py.typed"))
-    if not named.endswith(".dll"):  # the commands are for Linux
-        files.update((f"stlslice_commands/{os.path.basename(it)}", it) for it in sorted(glob.glob(f"{COMMANDS}/*.*")))
+    files.update((f"stlslice_commands/{os.path.basename(it)}", it) for it in sorted(glob.glob(f"{COMMANDS}/*.*")))
     content = {}
     for name, path in files.items():
         with open(path, "rb") as file:
@@ -46,9 +45,8 @@ def made(version, library, folder):
         "License: MIT\nClassifier: Programming Language :: Python :: 3\nClassifier: Typing :: Typed\n"
         "Requires-Python: >=3.8\nProvides-Extra: numpy\nRequires-Dist: numpy >=1.17 ; extra == 'numpy'\n").encode()
     content[f"{info}/WHEEL"] = f"Wheel-Version: 1.0\nGenerator: stlslice\nRoot-Is-Purelib: false\nTag: {tag}\n".encode()
-    if not named.endswith(".dll"):
-        scripts = "".join(f"stlslice-{it} = stlslice_commands.{it}:run\n" for it in ("sl1", "pngs", "page"))
-        content[f"{info}/entry_points.txt"] = f"[console_scripts]\n{scripts}".encode()
+    scripts = "".join(f"stlslice-{it} = stlslice_commands.{it}:run\n" for it in ("sl1", "pngs", "page"))
+    content[f"{info}/entry_points.txt"] = f"[console_scripts]\n{scripts}".encode()
     record = io.StringIO()
     rows = csv.writer(record, lineterminator="\n")
     for name, text in content.items():

@@ -27,6 +27,8 @@ try:
 except stlslice.Fault as fault:
     print(fault.status, fault.line)
 """
+# Windows' Python has none of these
+LACKING = "import os, signal; del signal.SIGHUP, signal.pthread_sigmask, os.sched_getaffinity; "
 COMMANDS = [it for it in os.listdir(os.path.join(ROOT, "commands/stlslice_commands")) if "." in it]
 
 
@@ -83,10 +85,14 @@ class Wheel(Together):
                                     f"{refused.status} {refused.fault.rstrip()}"], "its images and its fault")
 
     def test_its_commands_slice(self):
-        for name, out in (("sl1", "part.sl1"), ("pngs", "pngs"), ("page", "page.html")):
-            words = ["--canvas", "800x400", "--pitch", "50", "--layer", "1000", BRACKET, out]
-            told = self.room.out(self.room.file("own/bin", f"stlslice-{name}"), *words, cwd=self.room.path)
-            assert "27 layers" in told, f"stlslice-{name}: {told}"
+        """As installed, and without what Python has on Linux alone."""
+        for name, out in (("sl1", "{}.sl1"), ("pngs", "{}"), ("page", "{}.html")):
+            for way, words in (("plain", [self.room.file("own/bin", f"stlslice-{name}")]),
+                               ("lacking", [self.python, "-c", LACKING + f"from stlslice_commands.{name} import run; run()"])):
+                words += ["--canvas", "800x400", "--pitch", "50", "--layer", "1000", BRACKET, out.format(way)]
+                told = self.room.out(*words, cwd=self.room.path)
+                assert "27 layers" in told, f"stlslice-{name}: {told}"
+        same(*(bytes_of(self.room.file(it, "00026.png")) for it in ("lacking", "plain")), "a PNG")
 
     def test_the_module_of_the_tree_takes_the_library_that_is_named(self):
         for named, wanted in ((library(), (0, f"{version()}\n", "")), (self.room.file("none"), (1, "", "ImportError"))):

@@ -132,6 +132,7 @@ class Tried:
     def test_the_wheel_has_the_library(self):
         self.wheel()
         found = self.room.get("installed", "stlslice", self.IN_WHEEL)
+        assert os.path.exists(self.room.file("installed", "stlslice_commands", "sl1.py")), "the wheel has no commands"
         same(found, bytes_of(self.folder, self.SHARED), "the library of the wheel")
         info = self.room.get("installed", f"stlslice-{version()}.dist-info", "WHEEL").decode()
         assert f"\nTag: py3-none-{self.TAG}\n" in info, info

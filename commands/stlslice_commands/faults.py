@@ -9,7 +9,7 @@ import signal
 import sys
 import time
 
-SIGNALS = (signal.SIGHUP, signal.SIGINT, signal.SIGTERM)
+SIGNALS = [getattr(signal, it) for it in ("SIGHUP", "SIGINT", "SIGTERM") if hasattr(signal, it)]  # Windows has no SIGHUP
 # Control characters, and what Python has for bytes of a name that are no UTF-8.
 UNSHOWN = re.compile("[\0-\x1f\x7f-\x9f\udc80-\udcff]")
 BLOCK = 1 << 20
@@ -206,8 +206,9 @@ def listen(how):
 
 
 listen(stop)  # while the other modules are read, too
-# It is blocked while Python starts, by the commands' first line, since Python would end with a traceback.
-signal.pthread_sigmask(signal.SIG_UNBLOCK, [signal.SIGINT])
+# It is blocked while Python starts, by the commands' first line, since Python would end with a traceback. Windows blocks none.
+if hasattr(signal, "pthread_sigmask"):
+    signal.pthread_sigmask(signal.SIG_UNBLOCK, [signal.SIGINT])
 
 
 def end_of(fault):

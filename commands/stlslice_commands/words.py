@@ -45,7 +45,8 @@ millimetres = taking("millimetres above 0 and below 1000000, as 150 or 149.5", r
 
 def processors():
     """As many workers as there are processors to be used, and as are taken."""
-    return min(len(os.sched_getaffinity(0)), MOST_WORKERS)
+    used = len(os.sched_getaffinity(0)) if hasattr(os, "sched_getaffinity") else os.cpu_count() or 1
+    return min(used, MOST_WORKERS)
 
 
 class Parser(argparse.ArgumentParser):
