@@ -6,7 +6,7 @@ DESTDIR ?=
 PREFIX ?= /usr/local
 FACETS ?= 200000
 BASE ?= HEAD
-# what `make library` and `make wheel` are for: native is this machine
+# what `make library`, `make wheel` and `make dist` are for: native is this machine; other targets heed it not
 TARGET = native
 TARGETS := native aarch64-linux x86_64-windows
 $(if $(filter $(TARGET),$(TARGETS)),,$(error TARGET is $(TARGET), and not one of $(TARGETS)))

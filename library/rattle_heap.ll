@@ -1,7 +1,7 @@
 ; What the proved library calls of a heap, over realloc and free of the C library; realloc of null is malloc. The answer is 1
 ; and a block's address, or without a block 0 and that of `nothing`. LLVM, which compiles the library, returns such a pair in
-; its own way. C returns it otherwise on Windows, so this is no C. `%n` is the size: a block of 0 bytes is a block too. `%a` is
-; the alignment that is asked for. It divides 16, to which malloc aligns.
+; its own way. C returns it otherwise on Windows, so this is no C. `%old` is a block of `%kept` bytes, or null; `%n` is the size
+; that is asked for: a block of 0 bytes is a block too. `%a` is its alignment. It divides 16, to which malloc aligns.
 
 declare ptr @realloc(ptr, i64)
 declare void @free(ptr)

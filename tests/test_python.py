@@ -27,7 +27,6 @@ try:
 except stlslice.Fault as fault:
     print(fault.status, fault.line)
 """
-# Windows' Python has none of these
 LACKING = "import os, signal; del signal.SIGHUP, signal.pthread_sigmask, os.sched_getaffinity; "
 COMMANDS = [it for it in os.listdir(os.path.join(ROOT, "commands/stlslice_commands")) if "." in it]
 
@@ -85,13 +84,15 @@ class Wheel(Together):
                                     f"{refused.status} {refused.fault.rstrip()}"], "its images and its fault")
 
     def test_its_commands_slice(self):
-        """As installed, and without what Python has on Linux alone."""
+        """As installed, and without three names that Windows' Python lacks."""
         for name, out in (("sl1", "{}.sl1"), ("pngs", "{}"), ("page", "{}.html")):
             for way, words in (("plain", [self.room.file("own/bin", f"stlslice-{name}")]),
                                ("lacking", [self.python, "-c", LACKING + f"from stlslice_commands.{name} import run; run()"])):
                 words += ["--canvas", "800x400", "--pitch", "50", "--layer", "1000", BRACKET, out.format(way)]
                 told = self.room.out(*words, cwd=self.room.path)
                 assert "27 layers" in told, f"stlslice-{name}: {told}"
+        archives = (zipped(self.room.file(f"{it}.sl1")) for it in ("lacking", "plain"))
+        same(*([png for name, png in it.items() if name.endswith(".png")] for it in archives), "PNGs of the archives")
         same(*(bytes_of(self.room.file(it, "00026.png")) for it in ("lacking", "plain")), "a PNG")
 
     def test_the_module_of_the_tree_takes_the_library_that_is_named(self):

@@ -132,6 +132,8 @@ class Tried:
     def test_the_wheel_has_the_library(self):
         self.wheel()
         found = self.room.get("installed", "stlslice", self.IN_WHEEL)
+        scripts = self.room.get("installed", f"stlslice-{version()}.dist-info", "entry_points.txt").decode()
+        same(re.findall(r"= stlslice_commands[.](\w+):run\n", scripts), ["sl1", "pngs", "page"], "commands of the wheel")
         assert os.path.exists(self.room.file("installed", "stlslice_commands", "sl1.py")), "the wheel has no commands"
         same(found, bytes_of(self.folder, self.SHARED), "the library of the wheel")
         info = self.room.get("installed", f"stlslice-{version()}.dist-info", "WHEEL").decode()
@@ -144,6 +146,12 @@ class Arm(Tried, Together):
     SHARED = f"libstlslice.so.{version()}"
     CC, RUN = ["aarch64-linux-gnu-gcc"], ["qemu-aarch64", "-L", "/usr/aarch64-linux-gnu"]
     LINKS, NEEDED = ["libstlslice.so", "libstlslice.so.1"], ["libc.so.6"]
+
+    @classmethod
+    def make_ready(cls, room):
+        if not os.path.exists("/usr/aarch64-linux-gnu/include/stdlib.h"):
+            skip("the C library for ARM is missing (Debian: libc6-dev-arm64-cross)")
+        super().make_ready(room)
 
     def seen(self):
         shared = os.path.join(self.folder, self.SHARED)

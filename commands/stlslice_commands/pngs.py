@@ -13,7 +13,7 @@ moved into place when it is whole."""
 @command
 def run():
     given = words.read(words.parser(ABOUT, "the folder to make"))
-    folder = given.output = given.output.rstrip("/") or "/"
+    folder = given.output = given.output.rstrip("/" + os.sep) or "/"
     if folder == "-":
         raise Refused("a folder can't be standard output; stlslice --png writes all layers there, and ./- is a folder's name")
     if os.path.realpath(folder) == os.path.realpath(os.curdir):
@@ -30,4 +30,6 @@ def run():
             with named(folder), open(os.path.join(path, f"{number:05}.png"), "xb") as file:
                 file.write(png)
         sliced.finish()
+        if os.name == "nt" and os.path.isdir(folder):   # Windows moves nothing in the place of an empty folder
+            os.rmdir(folder)
         os.rename(path, folder)
