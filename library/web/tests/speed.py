@@ -54,7 +54,7 @@ AREAS = """(() => {
     globalThis.took = 0;
     const began = performance.now();
     (function look() { areas.length === opened.layers ? took = performance.now() - began : setTimeout(look, 2); })();
-    find_areas();
+    find_areas(opened);
 })()"""
 
 
