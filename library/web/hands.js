@@ -75,8 +75,11 @@ function moves_layers(target) {
 // The wheel moves through the layers, a layer for each notch. With Ctrl it zooms, and so browsers report two fingers on a
 // touch pad. If the page can be scrolled, the wheel does that, unless the picture or the slider was clicked.
 let turned = 0;
+let clicked = null; // the picture or the slider, until it loses the focus; a part that was chosen gives the focus without a click
+const is_in_use = (it) => it === clicked && it === document.activeElement;
+
 function wheel(it) {
-    if (!opened || !it.ctrlKey && page_scrolls() && document.activeElement !== it.currentTarget) return;
+    if (!opened || !it.ctrlKey && page_scrolls() && !is_in_use(it.currentTarget)) return;
     const pixels = it.deltaY * (it.deltaMode === 1 ? 33 : it.deltaMode === 2 ? 800 : 1);
     const is_at_end = k_now() === (pixels < 0 ? opened.layers - 1 : 0);
     if (!it.ctrlKey && is_at_end && page_scrolls()) return;
@@ -89,6 +92,10 @@ function wheel(it) {
 }
 
 for (const id of ["image", "plot", "layer"]) by(id).addEventListener("wheel", wheel, { passive: false });
+for (const id of ["image", "layer"]) {
+    by(id).addEventListener("pointerdown", (it) => { clicked = it.currentTarget; });
+    by(id).addEventListener("blur", (it) => { if (clicked === it.currentTarget) clicked = null; });
+}
 
 by("image").onpointerdown = finger_down;
 by("image").onpointermove = finger_moved;

@@ -1,25 +1,28 @@
-// What a file is that is no STL, what to do about it on each system, and which hint of docs/refused.md comes first.
+// What a file is if it is not an STL, what to do about it on each system, and which hint of docs/refused.md comes first.
 
 const SLICER = "open it in PrusaSlicer, then File > Export > Export Plate as STL";
-const BLENDER = "open it in Blender by File > Import, then File > Export > STL";
+const BLENDER = "open it in Blender, then File > Export > STL";
+const IMPORT = "open it in Blender by File > Import, then File > Export > STL";
 const ARCHIVER = "unpack it with 7-Zip or a like program";
 
 // What to do with a kind of files: on Windows, macOS and Linux. NAME is the file, MADE the STL that is made.
 const WAYS = {
     "3MF": [SLICER, SLICER, "prusa-slicer --export-stl --output MADE NAME"],
     AMF: [SLICER, SLICER, "assimp export NAME MADE"],
-    OBJ: [BLENDER, BLENDER, "assimp export NAME MADE"],
-    PLY: [BLENDER, BLENDER, "assimp export NAME MADE"],
+    OBJ: [IMPORT, IMPORT, "assimp export NAME MADE"],
+    PLY: [IMPORT, IMPORT, "assimp export NAME MADE"],
     OFF: ["open it in MeshLab, then File > Export Mesh As", "open it in MeshLab, then File > Export Mesh As",
         "assimp export NAME MADE"],
     STEP: Array(3).fill("open it in FreeCAD, choose the body, then File > Export, as STL mesh"),
     IGES: Array(3).fill("open it in FreeCAD, choose the body, then File > Export, as STL mesh"),
-    ...Object.fromEntries(["glTF", "FBX", "Blender", "COLLADA", "VRML", "DXF"].map((kind) => [kind, Array(3).fill(BLENDER)])),
+    Blender: Array(3).fill(BLENDER),
+    ...Object.fromEntries(["glTF", "FBX", "COLLADA", "VRML", "DXF"].map((kind) => [kind, Array(3).fill(IMPORT)])),
     zip: ["right-click it, then Extract All", "double-click it", "unzip NAME"],
     gzip: [ARCHIVER, "double-click it", "zcat NAME > MADE"],
     "7z or RAR": [ARCHIVER, "unpack it with Keka or a like program", "7z x NAME"],
 };
 const PACKED = ["zip", "gzip", "7z or RAR"];
+const TAKEN = ["3MF", "OBJ"]; // by the commands, which are for Linux
 const OTHERS = {
     "G-code": "It is G-code, which is made for one printer from a part. The part itself is needed, as STL.",
     "a web page": "It is a web page that was saved in the part's place. Download the part itself once more.",
@@ -43,13 +46,14 @@ function advice(kind, name) {
             + "The file has another length: it was cut, or it is another kind of file. Get it again, or export the part again as STL."];
         return [{ title: "A binary STL that is not whole, or another kind of file", words }];
     }
-    if (OTHERS[kind]) return [{ title: `${kind[0].toUpperCase()}${kind.slice(1)}, and no STL`, words: [OTHERS[kind]] }];
+    if (OTHERS[kind]) return [{ title: `${kind[0].toUpperCase()}${kind.slice(1)}, not an STL`, words: [OTHERS[kind]] }];
     if (!WAYS[kind]) return [];
     const words = PACKED.includes(kind) ? ["Unpack it, and choose the STL that is in it:"]
         : ["Export the part as STL from the program that made it. If you have only this file:"];
     const told = (way) => way.includes("NAME") ? element("code", with_names(way, kind, name)) : way;
-    const systems = ["Windows", "macOS", "Linux"].map((it, at) => [it, told(WAYS[kind][at])]);
-    return [{ title: `${kind}, and no STL`, words, systems }];
+    const first = (system) => system === "Linux" && TAKEN.includes(kind) ? ["stlslice-sl1 takes it as it is; for an STL: "] : [];
+    const systems = ["Windows", "macOS", "Linux"].map((it, at) => [it, ...first(it), told(WAYS[kind][at])]);
+    return [{ title: `${/^[AFIO]/.test(kind) ? "An" : "A"} ${kind} file, not an STL`, words, systems }];
 }
 
 // A command for a file. Programs that convert tell a format by the name's ending, so a file with another one is copied.

@@ -162,7 +162,7 @@ function hint({ title, words, command, systems }, is_open) {
     const made = element("details");
     made.open = is_open;
     made.append(element("summary", title), ...words.map((it) => element("p", it)));
-    if (systems) made.append(element("dl", ...systems.flatMap(([name, way]) => [element("dt", name), element("dd", way)])));
+    if (systems) made.append(element("dl", ...systems.flatMap(([name, ...way]) => [element("dt", name), element("dd", ...way)])));
     if (command) made.append(element("p", "How to fix it, on a command line:"), element("pre", command));
     return made;
 }

@@ -110,7 +110,7 @@ function command_of({ options: { pitch, layer, rule, unit, screen }, of }) {
     if (screen) return ["stlslice-sl1", ...words_of(screen), ...words, ...archive_words(), name, named(`${stem(of.name)}.sl1`)];
     words.unshift(`--pitch ${pitch}`);
     if (of.is_binary || unit > 1) return ["stlslice-page", ...words, name, named(`${stem(of.name)}.html`)];
-    return ["stlslice", ...words, `< ${name}`];
+    return ["stlslice", ...words, `< ${name}`, `> ${named(`${stem(of.name)}.pbm`)}`];
 }
 
 function words_of({ printer, canvas, pitch }) {

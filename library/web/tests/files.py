@@ -83,22 +83,23 @@ def try_binary(page, room, program):
          ["x of corner 0 of facet 6: not a number", "Facet 7 of the file, counted from 1."], "what is told of a number that is none")
 
 
-# Files that are no STL: what the page says of each first
+# Files that are not STLs: what the page says of each first
 KINDS = {
-    "part.3mf": ("3MF, and no STL", "prusa-slicer --export-stl --output part.stl part.3mf"),
-    "part.zip": ("zip, and no STL", "unzip part.zip"),
-    "part.stl.gz": ("gzip, and no STL", "zcat part.stl.gz > part.stl"),
-    "packed.stl": ("gzip, and no STL", "zcat packed.stl > packed-2.stl"),
-    "other.stl": ("OBJ, and no STL", "cp other.stl other.obj && assimp export other.obj other-2.stl"),
-    "my part.obj": ("OBJ, and no STL", "assimp export 'my part.obj' 'my part.stl'"),
-    "part.ply": ("PLY, and no STL", "assimp export part.ply part.stl"),
-    "part.off": ("OFF, and no STL", "assimp export part.off part.stl"),
-    "part.amf": ("AMF, and no STL", "assimp export part.amf part.stl"),
-    "part.step": ("STEP, and no STL", "FreeCAD"),
-    "part.glb": ("glTF, and no STL", "Blender"),
-    "-part.gcode": ("G-code, and no STL", "made for one printer"),
-    "part.html": ("A web page, and no STL", "Download the part itself"),
-    "part.png": ("A picture or document, and no STL", "no part in it"),
+    "part.3mf": ("A 3MF file, not an STL", "prusa-slicer --export-stl --output part.stl part.3mf"),
+    "part.zip": ("A zip file, not an STL", "unzip part.zip"),
+    "part.stl.gz": ("A gzip file, not an STL", "zcat part.stl.gz > part.stl"),
+    "packed.stl": ("A gzip file, not an STL", "zcat packed.stl > packed-2.stl"),
+    "other.stl": ("An OBJ file, not an STL", "cp other.stl other.obj && assimp export other.obj other-2.stl"),
+    "my part.obj": ("An OBJ file, not an STL", "assimp export 'my part.obj' 'my part.stl'"),
+    "part.ply": ("A PLY file, not an STL", "assimp export part.ply part.stl"),
+    "part.off": ("An OFF file, not an STL", "assimp export part.off part.stl"),
+    "part.amf": ("An AMF file, not an STL", "assimp export part.amf part.stl"),
+    "part.step": ("A STEP file, not an STL", "FreeCAD"),
+    "part.glb": ("A glTF file, not an STL", "Blender by File > Import"),
+    "part.blend": ("A Blender file, not an STL", "Blender, then File > Export"),
+    "-part.gcode": ("G-code, not an STL", "made for one printer"),
+    "part.html": ("A web page, not an STL", "Download the part itself"),
+    "part.png": ("A picture or document, not an STL", "no part in it"),
     "cut.stl": ("A binary STL that is not whole, or another kind of file", "12 facets, which take 684 bytes"),
     "mark.stl": ("Byte order mark", "sed"), "wide.stl": ("UTF-16", "iconv"),
 }
@@ -114,7 +115,7 @@ def bodies():
         "my part.obj": b"# by hand\nv 0 0 0\n", "part.ply": b"ply\nformat ascii 1.0\n", "part.off": b"OFF\n8 6 0\n",
         "part.amf": b'\xef\xbb\xbf<?xml version="1.0"?>\n<!DOCTYPE amf>\n<amf unit="millimeter">',
         "part.step": b"ISO-10303-21;\nHEADER;\n",
-        "part.glb": b"glTF\2\0\0\0", "-part.gcode": b"; sliced\nG28 \nG1 X0\n", "part.html": b"<!DOCTYPE html>\n<html>",
+        "part.glb": b"glTF\2\0\0\0", "part.blend": b"BLENDER-v402", "-part.gcode": b"; sliced\nG28 \nG1 X0\n", "part.html": b"<!DOCTYPE html>\n<html>",
         "part.png": b"\x89PNG\r\n\x1a\n", "cut.stl": bytes(80) + struct.pack("<I", 12) + bytes(500),
         "mark.stl": b"\xef\xbb\xbf" + text, "wide.stl": text.decode().encode("utf-16"),
     }
@@ -133,6 +134,7 @@ def zipped(name):
 def try_kinds(page, room):
     """A file that is no STL is refused with the library's line; what it is, and what to do on each system, comes first."""
     page.load()
+    same(page.value("by('file').accept"), "", "the endings alone that the window for a file shows")
     for name, body in bodies().items():
         path = os.path.join(room, name)
         with open(path, "wb") as file:
@@ -143,7 +145,9 @@ def try_kinds(page, room):
         same(page.value("by('hints').querySelector('summary').textContent"), title, f"the first hint of {name}")
         told = page.value("by('hints').querySelector('details').textContent")
         holds(f"{told!r} says {words!r}", words in told)
-        if title.endswith(", and no STL") and name not in ("-part.gcode", "part.html", "part.png"):
+        is_taken = title in ("A 3MF file, not an STL", "An OBJ file, not an STL")
+        same("Linuxstlslice-sl1 takes it as it is" in told, is_taken, f"whether the commands take {name}")
+        if title.endswith(", not an STL") and name not in ("-part.gcode", "part.html", "part.png"):
             same([it in told for it in ("Windows", "macOS", "Linux")], 3 * [True], f"the systems that {told!r} names")
 
 

@@ -60,14 +60,14 @@ def try_scrolling(page):
     """In a small window picture and slider are seen together; wheel and keys scroll the page, unless the picture is in use."""
     for size in (PHONE, *TWICE):
         k = opened_bracket(page, size)
-        page.value("document.activeElement.blur(); scrollTo(0, 0)")
+        page.value("scrollTo(0, 0)")
         bottom = page.value("Math.max(...['image', 'layer'].map((id) => by(id).getBoundingClientRect().bottom))")
         holds(f"picture and slider in a window of {size}: {bottom}", bottom <= size[1])
         holds(f"the picture's height: {page.value('by(`image`).clientHeight')}", page.value("by('image').clientHeight >= 70"))
         x, y = page.middle("#image")
         page.browser.mouse("mouseWheel", x, y, deltaX=0, deltaY=60)
         page.until("scrollY > 0")
-        page.value("scrollTo(0, 0)")
+        page.value("document.activeElement.blur(); scrollTo(0, 0)")
         page.browser.key("PageDown")
         page.until("scrollY > 0")
         same(page.k(), k, "the layer after scrolling")
@@ -199,7 +199,7 @@ def try_command(page, program):
     opened_bracket(page)
     page.change(unit=1, height=500)
     page.until(f"{IDLE} && opened.options.unit === 1 && opened.options.layer === 500")
-    same(page.text("command").strip(), "stlslice --pitch 100 --layer 500 --rule positive --unit inch < bracket.stl",
+    same(page.text("command").strip(), "stlslice --pitch 100 --layer 500 --rule positive --unit inch < bracket.stl > bracket.pbm",
          "the command of a part")
     names = {"a b's.stl": "'a b'\\''s.stl'", "-x.stl": "./-x.stl", "plain.stl": "plain.stl"}
     same(page.value(f"{json.dumps(list(names))}.map(named)"), list(names.values()), "names in a command")
