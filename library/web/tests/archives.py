@@ -90,12 +90,22 @@ def command(program, name, part, output, words):
 
 def head_of(entry):
     return (entry.filename, entry.date_time, entry.create_system, entry.create_version, entry.extract_version, entry.external_attr,
-            entry.flag_bits, entry.compress_type, entry.CRC, entry.file_size)
+            entry.internal_attr, entry.extra, entry.comment, entry.flag_bits, entry.compress_type, entry.CRC, entry.file_size)
+
+
+def local_head_of(entry, path):
+    """The bytes before an entry's data, up to the end of its name, without the size that depends on who compressed it."""
+    with open(path, "rb") as file:
+        file.seek(entry.header_offset)
+        head = file.read(30 + len(entry.filename.encode()))
+    return head[:18] + head[22:]
 
 
 def same_archive(found, wanted, what):
     with zipfile.ZipFile(found) as mine, zipfile.ZipFile(wanted) as theirs:
         same([head_of(it) for it in mine.infolist()], [head_of(it) for it in theirs.infolist()], f"heads of {what}")
+        same([local_head_of(it, found) for it in mine.infolist()], [local_head_of(it, wanted) for it in theirs.infolist()],
+             f"heads before the data of {what}")
         for name in theirs.namelist():
             same(mine.read(name), theirs.read(name), f"{name} of {what}")
         return len(theirs.namelist())
