@@ -160,12 +160,12 @@ PIECES = [*(it.encode() for it in (
 
 def try_kinds_of_commands(page):
     """A file is of a kind that the commands know exactly if they say so."""
-    from stlslice_commands import parts
-    draw, known = random.Random(31), {"3MF", "zip", "gzip", *parts.KINDS}
+    from stlslice_commands import formats
+    draw, known = random.Random(31), set(formats.KINDS)
     heads = [b"".join(draw.choices(PIECES, k=draw.randint(1, 6))) for _ in range(20000)]
     told = page.in_worker(f"{json.dumps([it.hex() for it in heads])}.map((it) => "
                           "kind_of(Uint8Array.from(it.match(/../g), (byte) => parseInt(byte, 16)), 0))")
-    wanted = [parts.kind_of(it) for it in heads]
+    wanted = [formats.kind_of(it) for it in heads]
     same([kind if kind in known else None for kind in told], wanted, "kinds")
     same(set(wanted), {None, *known}, "the kinds that were seen")
 
