@@ -8,6 +8,7 @@ Each task runs three times; the least time is printed, with the rate of reading 
 
 import math
 import os
+import random
 import subprocess
 import sys
 import tempfile
@@ -40,6 +41,18 @@ def ring_of(facets, path):
                 file.write(facet(a, b, c) + facet(a, c, d))
         file.write("endsolid ring\n")
     return 2 * around * across
+
+
+def pairs_of(facets, path):
+    """Facets that share no edge but with their own reverse, in no order: no closed mesh has more points and edges for its facets."""
+    draw = random.Random(facets)
+    found = []
+    for _ in range(facets // 2):
+        a, b, c = (" ".join(f"{draw.uniform(0, 60):.3f}" for _ in range(3)) for _ in range(3))
+        found += [facet(a, b, c), facet(a, c, b)]
+    draw.shuffle(found)
+    with open(path, "w", newline="\n") as file:
+        file.write("solid pairs\n" + "".join(found) + "endsolid pairs\n")
 
 
 def place(t, u):

@@ -10,7 +10,7 @@ from common import PROGRAM, ROOT, Case, library, needs, python_with, same, text_
 
 MEASURE = """
 import sys, library, measure, stlslice
-measure.ring_of(int(sys.argv[1]), sys.argv[2])
+getattr(measure, sys.argv[3])(int(sys.argv[1]), sys.argv[2])
 with open(sys.argv[2], "rb") as file:
     for name, opens in library.openings(stlslice, file.read()):
         print(*library.memory(opens), name)
@@ -40,8 +40,8 @@ class Library(Case):
         told = r"at most (\d+) bytes a facet, .* takes up to (\d+) bytes a facet, and a mebibyte"
         most, peak = map(int, re.search(told, text_of("docs/embedding.md")).groups())
         env = self.room.with_env(PYTHONPATH=f"{ROOT}/bench:{ROOT}/python", STLSLICE_LIBRARY=library())
-        for size in (1000, 20000, 70000):
-            told = self.room.out(sys.executable, "-c", MEASURE, str(size), self.room.file("ring.stl"), env=env)
+        for size, kind in ((1000, "ring_of"), (20000, "ring_of"), (70000, "ring_of"), (1000, "pairs_of"), (70000, "pairs_of")):
+            told = self.room.out(sys.executable, "-c", MEASURE, str(size), self.room.file("made.stl"), kind, env=env)
             rows = [row.split(" ", 3) for row in told.splitlines()]
             same([row[3] for row in rows], ["a text", "arrays", "a binary file", "a binary file on a screen"], "what is opened")
             for *numbers, name in rows:

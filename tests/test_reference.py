@@ -37,6 +37,8 @@ BELIEVED = (
     ("believe-screen.html", "part_on_screen.Screen.IsScreenOf",
      ["part_on_screen.Turned.turned", "part_on_screen.Pitch.IsPitch", "part_on_screen.Middle.IsGridOn",
       "part_on_screen.Middle.IsNoGrid"]),
+    ("believe-options.html", "stlslice_c.open_file",
+     ["stlslice_c.Answers.IsOpening", "stlslice_c.Options.IsSetup", "layer_session.SessionFault.session_fault_text"]),
     ("believe-mask.html", "stlslice_c.ask_mask",
      ["stlslice_c.Answers.IsMaskAnswer", "raster.Image.layer_image", "geometry.Winding.ray", "raster.Rule.is_inside"]))
 

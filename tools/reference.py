@@ -66,22 +66,27 @@ BELIEVED = [
              "wrong or something is missing, the fault is the first in the documented order. If the words ask for help or the "
              "version, that is told as a refusal."),
     Believed("believe-opening", "opening a part", "layer_session", ["Session::open"],
-             ["Reads", "IsFaultOf", "ReadsBinary", "IsFaultOfBinary", "part_on_screen", "IsGridOfPart", "IsNoGridOfPart", "IsScreen"], "",
+             ["Reads", "IsFaultOf", "ReadsBinary", "IsFaultOfBinary", "part_on_screen", "IsGridOfPart", "IsNoGridOfPart"], "",
              "The bytes of a file are read as a binary STL if they are as many as its count of facets takes, and as a text if not. "
              "The facets are placed in a grid or on a printer's screen, and have to be closed there. If something is wrong, there "
              "is one fault, the first of these: a step out of range, what the file has, a coordinate that leaves the range on the "
-             "screen, the least open edge, what keeps the part from having a grid."),
+             "screen, the least open edge, what keeps the part from having a grid. Or memory ran out."),
     Believed("believe-binary", "how a binary STL reads as facets", "binary_stl", ["Binary.ReadsBinary", "Binary.IsFaultOfBinary"], [], "",
              "A binary STL is a header of 80 bytes, a count, and 50 bytes a facet. A coordinate is a number of IEEE 754 single "
              "precision. Its exact value in the unit is rounded once to a whole micrometre, halves away from zero. Normals and "
              "attributes are not looked at. The fault of other bytes is their length, their count, or the first number that is no "
              "coordinate."),
     Believed("believe-screen", "a part on a printer's screen", "part_on_screen",
-             ["Screen.IsScreenOf", "Stretched.part_on_screen", "Middle.IsGridOfPart", "Middle.IsNoGridOfPart"], [], "",
-             "A part is turned by quarters, counterclockwise from above. Then x and y are multiplied, so that pixels whose sides "
-             "differ become squares of the least side that is a whole number. The middle of the part's box is that of the "
-             "screen, its lowest point stands on the first layer, and the layers are those whose middle is below its top, at "
-             "least one. There is no grid if the part does not fit, or leaves the range."),
+             ["Screen.IsScreenOf", "Screen.IsNoScreen", "Stretched.part_on_screen", "Middle.IsGridOfPart", "Middle.IsNoGridOfPart"], [], "",
+             "A part is turned by quarters, counterclockwise from above. Then x and y are multiplied by whole numbers, so that "
+             "pixels become squares. Their side is the least whole number of micrometres that is a multiple of both sides. The "
+             "middle of the part's box is that of the screen, its lowest point stands on the first layer, and the layers are "
+             "those whose middle is below its top, at least one. There is no grid if no facet is left, if the part is wider or "
+             "deeper than the screen, if a corner of the screen leaves the range, or if there are too many layers."),
+    Believed("believe-options", "open_file", "stlslice_c", ["open_file"], ["IsSessionOf", "IsOpenFault"], "",
+             "This is opening as C has it. The numbers of the options stand for a unit, a rule and a place, or for none: then the "
+             "status is 1. If the file has a session, that is put into the handle and its counts into the shape. Else both stay, "
+             "and the line has the fault's text, or that of the status if memory ran out."),
     Believed("believe-mask", "ask_mask", "stlslice_c", ["ask_mask"], [], "",
              "This is the image of one layer, behind the pointers of C, which `IsMaskCall` adds. The handle has an opened mesh, or "
              "none. With a mesh, the image of layer k is put into the buffer, if that is large enough. Else only the size that it "

@@ -374,7 +374,7 @@ def box(source: Source, unit: Unit = "mm") -> Box:
 def read(source: Source, unit: Unit = "mm") -> Any:
     """The facets of a file, which is given as in `open`, in whole micrometres: for each its three corners, and for each of these
     x, y and z. They are an array of numpy, or triples of triples in a list if numpy is missing. Raises the faults of `box`, but
-    takes any number of facets."""
+    takes as many facets as a binary STL can count."""
     data, count, numpy = _bytes(source), ctypes.c_size_t(), _numpy()
     room = len(data) // 50      # a facet of a text is longer than one of a binary STL
     found = numpy.empty((room, 3, 3), numpy.int32) if numpy else array.array("i", bytes(36 * room))

@@ -47,8 +47,9 @@ pub fn moved_together()
 
 /// A part that is turned by quarters, counterclockwise from above, is closed exactly if it was. A ray along x becomes one along
 /// y, with the same crossings if its line meets no edge. If the part is closed and no facet touches a centre, both rays from
-/// the turned centre are those from the centre, also on a screen, where the part is stretched too. So its voxel in the turned
-/// grid is filled exactly if it was. A centre on a facet may differ: a box holds its near faces, and not its far ones.
+/// the turned centre are those from the centre, also on a screen, where the part is stretched too. So after one quarter its
+/// voxel in the turned grid is filled exactly if it was. A centre on a facet may differ: a box holds its near faces, and not
+/// its far ones.
 pub fn turned_by_quarters()
     ensures x_becomes_y { RaysAlongXBecomeY }
     ensures closed { TurnedPartsAreClosed }
