@@ -177,23 +177,20 @@ def passed_on(given, call, folder, file):
     environment = {**os.environ, "TMPDIR": os.path.dirname(folder)}
     if not given.hosts:
         environment["PARALLEL_SHELL"] = "/bin/sh"
-    with open(os.path.join(folder, "parallel"), "wb") as own:
+    # in memory, since the folder may be full
+    with open(os.memfd_create("parallel"), "r+", errors="backslashreplace") as own:
         child = subprocess.Popen(call, cwd=folder, env=environment, stdin=subprocess.DEVNULL, stdout=subprocess.PIPE, bufsize=0,
                                  stderr=sys.stderr if given.hosts or sys.stderr.isatty() else own,
                                  preexec_fn=partial(signal.signal, signal.SIGINT, signal.SIG_IGN))
-    with undone(partial(end, child)):
-        for block in iter(partial(child.stdout.read, BLOCK), b""):
-            file.write(block)
-        child.wait()
-    status = status_of(child)
-    return status, "".join(said(folder, "faults")[:1] + (said(folder, "parallel") if status == 255 else []))
-
-
-def said(folder, name):
-    """The lines of a file of the folder. It may not be there."""
-    path = os.path.join(folder, name)
-    with open(path if os.path.exists(path) else os.devnull, errors="backslashreplace") as file:
-        return file.readlines()
+        with undone(partial(end, child)):
+            for block in iter(partial(child.stdout.read, BLOCK), b""):
+                file.write(block)
+            child.wait()
+        own.seek(0)
+        by_itself = own.read() if child.returncode == 255 else ""
+    faults = os.path.join(folder, "faults")
+    with open(faults if os.path.exists(faults) else os.devnull, errors="backslashreplace") as said:
+        return status_of(child), said.readline() + by_itself
 
 
 def end(child):
