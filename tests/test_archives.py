@@ -238,7 +238,7 @@ WRONG = {
     "--height=0": "it takes millimetres above 0 and below 1000000, as 150 or 149.5",
     "--exposure=0": SECONDS, "--first-exposure=-2": SECONDS, "--fade=1000": "it takes a whole number, 0 to 999",
     "--turn=half": "it takes auto, or no value", "--turn=quarter": "it takes auto, or no value",
-    "--rule=xor": "invalid choice: 'xor'", "--unit=foot": "invalid choice: 'foot'", "--depth=2": "invalid choice: 2",
+    "--rule=xor": "invalid choice: 'xor'", "--unit=foot": "invalid choice: 'foot'", "--depth=2": "it takes 1 or 8",
 }
 
 
@@ -359,9 +359,10 @@ class Faults(Case):
     def test_ctrl_c_at_once_prints_no_traceback(self):
         """In each millisecond of the first fifty, and some later ones."""
         self.room.put("part.stl", text(box((0, 0, 0), ("0.8", "0.1", 60))))
-        for command in (SL1, PNGS, PAGE):
+        slabs = [] if self.lacks("stlslice-slabs", "parallel") else [[SLABS, "-l", "1"]]
+        for command, *more in (*([it, *TINY[:-1], "1"] for it in (SL1, PNGS, PAGE)), *slabs):
             for wait in (*range(50), 75, 100, 200):
-                words = ["env", "--default-signal=INT", command, *TINY[:-1], "1", "part.stl", "out"]
+                words = ["env", "--default-signal=INT", command, *more, "part.stl", "out"]
                 child = subprocess.Popen(words, cwd=self.room.path, env=self.room.environment, stderr=subprocess.PIPE)
                 time.sleep(wait / 1000)
                 child.send_signal(signal.SIGINT)

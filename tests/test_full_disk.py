@@ -70,8 +70,10 @@ class FullDisk(Case):
         self.holds_as_before()
         self.leave(100_000)
         ran = self.slabs(out, "-j", "4", env=env)
-        assert ran.status in (1, 7) and ran.out == "", ran
-        assert ran.fault.splitlines()[-1].startswith(("stlslice: ", "stlslice-slabs: ")), ran
+        slab = f"stlslice-slabs: a slab ended with status 7 and no line: is the temporary folder {self.disk} full, or memory short?"
+        lines = {1: ["stlslice-slabs: GNU parallel or ssh failed"], 7: [slab, "stlslice: write failed after 0 bytes"]}
+        assert ran.out == "" and ran.fault.splitlines()[-1] in lines[ran.status], ran
+        assert ran.status == 7 or ran.fault.startswith("parallel: Error: "), ran
         self.holds_as_before()
         assert not os.path.exists(out), "something is left"
 

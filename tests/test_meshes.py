@@ -8,13 +8,15 @@ import random
 import re
 import struct
 import sys
+import traceback
 import zipfile
 
 from as_installed import PAGE, PNGS, SHARE, SL1
 from common import BRACKET, Case, bytes_of, example, name_of, needs, same
+from measure import exit_status
 from parts import FACES, SIDES, binary, box, formats, lines, obj, points, text
 
-from stlslice_commands import faults, meshes, parts
+from stlslice_commands import faults, meshes, sl1, slicing  # noqa: F401, so that no run has to read it
 
 SCREEN = ["--canvas", "160x120", "--pitch", "250", "--layer", "500"]
 LOW, HIGH = (0, 0, 0), (10, 20, 30)
@@ -277,6 +279,25 @@ def mutated(draw, body):
     return bytes(body)
 
 
+def forked(room, *words):
+    """Status and standard error of stlslice-sl1 in a copy of this process, which saves the start of a Python for each run."""
+    fault = room.file("../fault")
+    child = os.fork()
+    if child == 0:
+        try:
+            os.chdir(room.path)
+            sys.argv, sys.stdout, sys.stderr = ["stlslice-sl1", *words], open(os.devnull, "w"), open(fault, "w")
+            sl1.run()
+        except BaseException:
+            traceback.print_exc()
+        finally:
+            sys.stderr.flush()
+            os._exit(99)
+    status = exit_status(os.waitpid(child, 0)[1])
+    with open(fault) as said:
+        return status, said.read()
+
+
 class HostileFiles(Case):
     def test_they_take_at_most_40_megabytes_and_two_seconds(self):
         for name, body in hostile_files():
@@ -286,24 +307,22 @@ class HostileFiles(Case):
             assert seconds < 2 and memory < 40 << 10, f"{name}: {seconds} s, {memory} KiB"
 
     def test_mutated_files_are_taken_or_refused_in_one_line(self):
-        """No fault but one with a line and a status of the commands, and no file is left."""
-        draw, taken = random.Random(7), {}
+        """By stlslice-sl1: an archive, or a line and a status of the commands, and no file is left."""
+        draw, taken, room = random.Random(7), {}, self.room
         bodies = {"3mf": packed(model()), "obj": obj(LOW, HIGH).encode(), "xml": model().encode(), "stl": binary(box(LOW, HIGH))}
-        given = type("Given", (), {"part": self.room.file("part"), "unit": "mm"})()
         for number in range(800):
             kind = sorted(bodies)[number % 4]
             body = mutated(draw, bodies[kind])
-            self.room.put("part", packed(body) if kind == "xml" else body)
-            try:
-                mesh, = parts.Part(given).open(canvas=(160, 120), pitch=250, layer=500)
-                taken[kind] = taken.get(kind, 0) + len(mesh.areas())
-            except parts.stlslice.FitFault:
-                pass
-            except faults.Refused as fault:
-                line = fault.told + (fault.line or "")
-                assert fault.status in (1, 2, 3, 4, 5) and 9 < len(line) < 500, f"{number}: {fault.status}, {line}"
+            room.put("part", packed(body) if kind == "xml" else body)
+            status, said = forked(room, *SCREEN, "--workers", "1", "part", "out.sl1")
+            if status == 0:
+                with zipfile.ZipFile(room.file("out.sl1")) as archive:
+                    taken[kind] = taken.get(kind, 0) + sum(name.endswith(".png") for name in archive.namelist())
+                os.remove(room.file("out.sl1"))
+            wanted = "" if status == 0 else r"stlslice(-sl1)?: .{5,500}\n"
+            assert status in range(6) and re.fullmatch(wanted, said), f"{number}: {status}, {said}"
+            same(room.files(), ["part"], f"{number}: files")
         assert len(taken) == 4 and min(taken.values()) > 60, f"layers of those that were taken: {taken}"
-        same(self.room.files(), ["part"], "files")
 
 
 class Commands(Case):

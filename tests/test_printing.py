@@ -234,9 +234,7 @@ class Printing(Case):
                 here = self.folder(f"{number}{bad[0]}")
                 self.room.put(f"{number}{bad[0]}/part.stl", bad)
                 fault, firsts = self.room.bash(block.body, cwd=here).fault, tuple(f"stlslice: {it}\n" for it in lines)
-                # GNU parallel may name the failed job before it passes on what that job said
-                by_parallel = fault.startswith("parallel: This job failed:\n") and any("\n" + it in fault for it in firsts)
-                assert fault.startswith(firsts) or by_parallel, f"{block.head}: {fault!r}"
+                assert fault.startswith(firsts), f"{block.head}: {fault!r}"
                 left = set(os.listdir(here))
                 same(left & names, set(), f"{block.head}: files")
                 layers = os.listdir(os.path.join(here, "layers")) if "layers" in left else []

@@ -111,6 +111,12 @@ class Words(Slabs):
             line = f"stlslice-slabs: {line}"
             self.room.refused(1, line, sys.executable, path, *words, BRACKET, "x", cwd=here, env=env)
 
+    def test_another_program_is_refused(self):
+        """One that answers in another way, such as with nine words."""
+        for told in ("facets 12 box 0 0 0", "1 2 3 4 5 6 7 8 9", "hello\nfacets 12 box 0 0 0 1 1 1", ""):
+            tool = self.room.put("other", f"#!/bin/sh\necho '{told}'\n", 0o755)
+            self.room.refused(1, f"%s: {tool} is no stlslice", SLABS, "-P", tool, BRACKET, "x")
+
     def test_outputs_are_plain_files(self):
         """GNU parallel, which isn't run, has a stand-in."""
         env, (pipe, link, none) = {"PATH": self.room.tools()}, map(self.room.file, ("pipe", "link", "none"))
@@ -302,6 +308,38 @@ class Parallel(Slabs):
             names |= {part, path, name}
         same(set(room.files()), names, "files")
 
+    def test_folders_may_be_relative(self):
+        """The temporary folder, and a folder of PATH, whose program isn't the one beside the command."""
+        room, tool, path = self.room, self.slicer(IMAGES), alone("stlslice-slabs", self.room)
+        os.makedirs(room.file("tools"))
+        os.makedirs(room.file("tmp"))
+        os.rename(tool, room.file("tools", "stlslice"))
+        os.symlink(shutil.which("parallel"), room.file("tools", "parallel"))
+        env = room.with_env(TMPDIR="tmp", PATH="tools:" + os.environ["PATH"])
+        words = [sys.executable, path, "-l", "100", "-n", "5", "-j", "-1", BRACKET, "out"]
+        same(room.out(*words, cwd=room.path, env=env), "", "run")
+        same((room.get("out"), os.listdir(room.file("tmp"))), (GRIDS, []), "the slabs, and what is left")
+
+    def test_one_line_is_told(self):
+        """Of an open part, whose edge each slab finds, and if parallel fails itself."""
+        part, out = self.room.put("open.stl", OPEN), self.room.file("out")
+        self.room.refused(4, OPEN_LINE, SLABS, "-n", "5", "-j", "4", part, out)
+        ran = self.room.run(SLABS, "-j", "none", BRACKET, out)
+        assert ran.status == 1 and ran.fault.startswith("parallel: Error: "), ran
+        assert ran.fault.endswith("\nstlslice-slabs: GNU parallel or ssh failed\n"), ran
+
+    def test_a_parallel_that_does_not_end_is_killed(self):
+        """A stand-in, which ignores what would end it."""
+        room, env = self.room, {"PATH": f"{self.room.tools()}:/usr/bin:/bin"}
+        room.put("tools/parallel", f"#!/bin/sh\ntrap '' TERM\necho $$ > '{room.file('pid')}'\nexec sleep 600\n", 0o755)
+        words = [sys.executable, SLABS, "-P", PROGRAM, BRACKET, "out"]
+        with subprocess.Popen(words, cwd=room.path, env=room.with_env(**env), stderr=subprocess.PIPE) as child:
+            waited(lambda: os.path.exists(room.file("pid")) and room.get("pid").endswith(b"\n"))
+            child.send_signal(signal.SIGTERM)
+            same((child.wait(60), child.stderr.read()), (128 + signal.SIGTERM, b""), "status and faults")
+        waited(lambda: has_ended(int(room.get("pid"))), 5)
+        same(room.files(), ["pid", "tools"], "files")
+
     def test_settings_change_nothing(self):
         """Those of GNU parallel that a user may have."""
         os.mkdir(os.path.join(self.room.home, ".parallel"))
@@ -348,9 +386,7 @@ class Parallel(Slabs):
         fails = "*0,0,300) echo stlslice: out of memory >&2; exit 6;;"
         tool = self.slicer(f"case $* in {fails} *0,0,0|*0,0,600) sleep 60;; esac")
         start = time.monotonic()
-        ran = self.room.run(SLABS, "-l", "100", "-n", "3", "-j", "3", "-P", tool, BRACKET, out)
-        same((ran.status, ran.out), (6, ""), "status")
-        assert "stlslice: out of memory\n" in ran.fault, f"the slab's line is missing: {ran.fault!r}"
+        self.room.refused(6, "stlslice: out of memory", SLABS, "-l", "100", "-n", "3", "-j", "3", "-P", tool, BRACKET, out)
         assert time.monotonic() - start < 30, "the other slabs went on"
         same(bytes_of(out), b"what was there before", "the file that was there")
         same(self.room.files(), ["out.pbm", "slicer"], "files")

@@ -100,7 +100,8 @@ def slicer_of(given):
     found = next(filter(shutil.which, places), None)
     if not found:
         raise Refused(missing)
-    return os.path.realpath(found) if "/" in found else found
+    # parallel runs in another folder
+    return found if given.hosts and "/" not in found else os.path.abspath(shutil.which(found))
 
 
 class Slabs:
@@ -111,9 +112,12 @@ class Slabs:
             ran = subprocess.run([slicer, "--box", "--unit", given.unit], stdin=file, stdout=subprocess.PIPE, stderr=sys.stderr)
         if ran.returncode:
             raise Refused(None, status_of(ran))
-        box = list(map(int, ran.stdout.split()[3:]))
-        if not box:
+        told = re.fullmatch(rb"facets \d+(?: box((?: -?\d{1,10}){6}))?\n", ran.stdout)
+        if not told:
+            raise Refused(f"{slicer} is no stlslice")
+        if not told[1]:
             raise Refused("the part has no facets")
+        box = list(map(int, told[1].split()))
         sides = zip(box[:3], box[3:], (given.pitch, given.pitch, given.layer))
         columns, rows, self.layers = (max(1, -(-(after - before) // step)) for before, after, step in sides)
         self.size = len(f"P4\n{columns} {rows}\n") + rows * ((columns + 7) // 8)
@@ -151,7 +155,8 @@ def told(line):
 def call_of_parallel(given, slicer, slabs, folder):
     """The call by which GNU parallel runs the slabs, in a folder that has their commands. These are whole, since parallel would find
     marks of its own, such as {}, in names."""
-    call = ["parallel", "--plain", "--will-cite", "--keep-order", "--null", "--halt", "now,fail=1", "--jobs", given.jobs]
+    call = [os.path.abspath(shutil.which("parallel")), "--plain", "--will-cite", "--keep-order", "--null", "--halt", "now,fail=1",
+            "--jobs", given.jobs]
     if given.hosts:
         # A copy under a name of its own, relative to the login folder there: --cleanup removes that and never the part.
         copy = f"stlslice-{os.urandom(8).hex()}.stl"
@@ -160,36 +165,47 @@ def call_of_parallel(given, slicer, slabs, folder):
         files = f"< {copy}"
     else:
         # parallel prints what slabs say in their order, so it would leave out the fault of one that ends before one below it
-        files = f"< {quote(os.path.realpath(given.part))} 2>> {quote(os.path.join(folder, 'faults'))}"
+        files = f"2>> {quote(os.path.join(folder, 'faults'))} < {quote(os.path.realpath(given.part))}"
     with open(os.path.join(folder, "commands"), "wb") as file:
         file.write(b"\0".join(os.fsencode(f"{quote(slicer)} {it} {files}") for it in slabs.words))
     return [*call, "--arg-file", "commands", *["--bar"] * sys.stderr.isatty()]
 
 
 def passed_on(given, call, folder, file):
-    """Writes what the slabs give. Returns the status of GNU parallel, and what slabs said."""
-    environment = os.environ if given.hosts else {**os.environ, "PARALLEL_SHELL": "/bin/sh"}
-    child = subprocess.Popen(call, cwd=folder, env=environment, stdin=subprocess.DEVNULL, stdout=subprocess.PIPE, stderr=sys.stderr,
-                             bufsize=0, preexec_fn=partial(signal.signal, signal.SIGINT, signal.SIG_IGN))
-    with undone(partial(end, child)):
-        for block in iter(partial(child.stdout.read, BLOCK), b""):
-            file.write(block)
-        child.wait()
+    """Writes what the slabs give. Returns the status of GNU parallel, and what is to be told of a failure: the first line of all slabs,
+    and what parallel says if it fails itself. Of a slab that fails it would tell the command."""
+    environment = {**os.environ, "TMPDIR": os.path.dirname(folder)}
+    if not given.hosts:
+        environment["PARALLEL_SHELL"] = "/bin/sh"
+    # in memory, since the folder may be full
+    with open(os.memfd_create("parallel"), "r+", errors="backslashreplace") as own:
+        child = subprocess.Popen(call, cwd=folder, env=environment, stdin=subprocess.DEVNULL, stdout=subprocess.PIPE, bufsize=0,
+                                 stderr=sys.stderr if given.hosts or sys.stderr.isatty() else own,
+                                 preexec_fn=partial(signal.signal, signal.SIGINT, signal.SIG_IGN))
+        with undone(partial(end, child)):
+            for block in iter(partial(child.stdout.read, BLOCK), b""):
+                file.write(block)
+            child.wait()
+        own.seek(0)
+        by_itself = own.read() if child.returncode == 255 else ""
     faults = os.path.join(folder, "faults")
     with open(faults if os.path.exists(faults) else os.devnull, errors="backslashreplace") as said:
-        return status_of(child), said.read()
+        return status_of(child), said.readline() + by_itself
 
 
 def end(child):
-    """Ends parallel and its slabs. It hears this as soon as it has begun. What they still write is lost."""
+    """Ends parallel and its slabs. It hears this as soon as it has begun, and is killed if it hasn't ended 5 seconds later. What they
+    still write is lost."""
     def lose():
         while child.stdout.read(BLOCK):
             pass
 
     threading.Thread(target=lose, daemon=True).start()
     with contextlib.suppress(ProcessLookupError, ChildProcessError):
-        while child.returncode is None and os.waitpid(child.pid, os.WNOHANG)[0] == 0:
-            os.kill(child.pid, signal.SIGTERM)
+        for number in [*10 * [signal.SIGTERM], signal.SIGKILL]:
+            if child.returncode is not None or os.waitpid(child.pid, os.WNOHANG)[0]:
+                return
+            os.kill(child.pid, number)
             time.sleep(0.5)
 
 
@@ -198,16 +214,16 @@ def make(given, slicer, slabs):
     place, name = os.environ.get("TMPDIR") or "/tmp", "standard output" if given.output == "-" else given.output
     with contextlib.ExitStack() as stack:
         with told(f"the temporary folder {place} can't be used"):
-            folder = tempfile.mkdtemp(dir=place)
+            folder = os.path.abspath(tempfile.mkdtemp(dir=place))
             stack.enter_context(undone(partial(remove, folder)))
             call = call_of_parallel(given, slicer, slabs, folder)
         with told(f"{name} can't be written"), whole_file(given.output) as file:
-            status, said = passed_on(given, call, folder, file)
+            status, told_before = passed_on(given, call, folder, file)
             if status == 255:
-                raise Refused("GNU parallel or ssh failed", 1, said)
+                raise Refused("GNU parallel or ssh failed", 1, told_before)
             if status:
                 line = f"a slab ended with status {status} and no line: is the temporary folder {place} full, or memory short?"
-                raise Refused(None if said or given.hosts else line, status, said)
+                raise Refused(None if told_before or given.hosts else line, status, told_before)
             if not slabs.are_whole(given, file):
                 raise Refused(f"{name} can't be written: images of slabs are lost; is the temporary folder {place} full?")
             look_at_output(given.output, given.part)

@@ -102,7 +102,7 @@ def parser(description, output):
         help="slice each shell by itself and join the images, for a part of more than 1,048,576 facets")
     add("--mirror-x", action="store_true", help="swap left and right in each image")
     add("--mirror-y", action="store_true", help="swap top and bottom in each image")
-    add("--depth", type=int, default=8, choices=[1, 8], help="bits of a PNG's pixel (%(default)s)")
+    add("--depth", type=taking("1 or 8", "[18]", int), default=8, choices=[1, 8], help="bits of a PNG's pixel (%(default)s)")
     return made
 
 
