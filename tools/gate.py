@@ -12,6 +12,7 @@ What each printed is kept in build/gate. What an earlier run left at PROGRAM is 
 last lines say how long each part took, what was skipped or failed, and 'N passed, N failed'. The status is 0 if nothing failed.
 """
 
+import glob
 import os
 import re
 import subprocess
@@ -56,6 +57,9 @@ def main():
         os.remove(program)
     parts = [Part("proofs and edits", "rt", "ci")]
     parts.append(Part("refusals by a clause", "tools/refused.py", parts[0].file()))
+    # what `rt ci` kept stands there with an old time, by which library/proved.py would judge it
+    for library in glob.glob(f"{ROOT}/crates/*/out/rlib/*.rlib") if not parts[0].failed else []:
+        os.utime(library)
     if os.access(program, os.X_OK):
         parts.append(Part("library, wheel and page", "make", "library", "wheel", "web"))
         parts.append(Part("tests of what people touch", "tests/run", program))
