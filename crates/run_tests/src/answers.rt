@@ -1,10 +1,10 @@
 //! The result of a run by a line of words, for the tests of runs: its end, its text, and its fault as it is reported.
 use crate::meshes::{Mesh, mesh_text};
+use crate::word_lines::task_of;
 use std::alloc::{Allocator, Global};
 use std::sync::Wait;
 use std::thread::Threads;
 use stlslice::{Counted, RunFault, Sink, Source, run};
-use test_words::task_of;
 
 /// What a run by a line of words ends with, in this memory and by these devices. `None` if the words are no task.
 pub(crate) fn end_of<

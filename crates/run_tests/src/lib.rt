@@ -34,4 +34,6 @@ mod progress_texts;
 #[cfg(test)]
 mod slice_runs;
 #[cfg(test)]
+mod word_lines;
+#[cfg(test)]
 mod words;

@@ -1,10 +1,10 @@
 //! Which tasks words name, and how words are refused. Clauses say both; no clause says that memory is found.
+use crate::word_lines::{split, task_of};
 use geometry::Point;
 use micro_num::Unit;
 use raster::Rule;
 use std::alloc::Global;
 use task_words::{Depth, Given, Mirrors, Task, WordFault, wants_progress};
-use test_words::{split, task_of};
 
 /// Whether a line of words is this task, which is `None` if it could not be made.
 fn is_task(alloc: Global, line: &str, task: Option<Task>) -> bool {
