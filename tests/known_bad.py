@@ -13,7 +13,7 @@ import tempfile
 
 ROOT = os.path.dirname(os.path.dirname(os.path.abspath(__file__)))
 POOL, COUNTED = "layer_pool/src/pool.rt", "devices/src/counted.rt"
-HELD, BYTES = "layer_tests pool::one_worker_is_held", "layer_tests byte_writers::a_byte_at_a_time_from_reader_to_writer"
+HELD, BYTES = "slicing_tests pool::one_worker_is_held", "slicing_tests byte_writers::a_byte_at_a_time_from_reader_to_writer"
 LOCK = "= shared.book.lock(shared.rt);"
 COUNT = r"Ok\(count\) => Ok\(count\),(\s+Err\(_\) => Err\(self\.fail\(\)\),\s+\}\s+\}\s+"
 FAIL = r"Ok(_) => Err(self.fail()),\1"
@@ -29,20 +29,20 @@ BAD = [
     ("a pool that holds the lock while it slices", POOL, r"if let Ok\(piece\) = (slicer\.slice\(stripe\))",
      rf"let sliced = {{ let _book {LOCK} \1 }}; if let Ok(piece) = sliced", f"{HELD}_in_a_slice_while_the_other_works"),
     ("a finish that leaves stripes empty", "build_book/src/places.rt", r"for s in 0(\.\.job\.stripes\(\) \{\s+late \+=)",
-     r"for s in 1\1", "layer_tests book::two_cubes_by_each_rule"),
+     r"for s in 1\1", "slicing_tests book::two_cubes_by_each_rule"),
     ("a probe that gives one ray twice", "mesh_weld/src/probing.rt", r"(crossings\(solid, centre\), crossings)_along_y",
      r"\1", "welding_tests rays::probes_of_meshes"),
     ("a weld that always answers out of memory", "mesh_weld/src/welding.rt", r"let mut welder = Welder::new\(alloc\);",
      r"if facets.len() < usize::MAX { return Err(WeldFault::Memory); } \g<0>", "welding_tests welding::closed_meshes"),
     ("a fill that always answers out of memory", "raster/src/filler.rt", r"(Filler::new\(alloc\)\.fill\(.*?\))\n",
-     r"let _spans = \1; Err(AllocError)\n", "layer_tests filling::layers_of_two_cubes"),
+     r"let _spans = \1; Err(AllocError)\n", "slicing_tests filling::layers_of_two_cubes"),
     ("a run_watched that always answers out of memory", "stlslice/src/running.rt",
      r"match \*task \{\s+Task::Box \{ unit \} => run_box\(",
      r"let end: Result<(), RunFault> = Err(RunFault::Memory); if end.is_err() { return end; } \g<0>", "run_tests box_runs::boxes"),
     ("a Counted whose reads always fail", COUNTED, COUNT + r"\}\s+impl<T: Write> Sink)", FAIL, BYTES),
     ("a Counted whose writes always fail", COUNTED, COUNT + r"fn settle)", FAIL, BYTES),
     ("a Counted that can't be flushed", COUNTED, r"self\.is_settled = true;\s+Ok\(\(\)\)", "Err(self.fail())",
-     "layer_tests byte_writers::an_interrupted_flush_is_not_tried_again"),
+     "slicing_tests byte_writers::an_interrupted_flush_is_not_tried_again"),
     ("a Counted that never flushes", COUNTED, r"self\.inner\.flush\(\)", "Ok::<(), Failed>(())",
      "run_tests device_runs::writers_with_little_room"),
 ]

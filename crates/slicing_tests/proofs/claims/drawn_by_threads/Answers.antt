@@ -2,7 +2,7 @@ use Rattle.std.proofs.Common.{ℕ, Vec, Global}
 use Rattle.stripe_claims.specs.Claims.{Pass}
 use Rattle.stripe_claims.specs.Claims.{IsOwned}
 use Rattle.stripe_claims.proofs.lemmas.Gathers.{all_last, all_front, all_push}
-use Rattle.layer_tests.proofs.claims.drawn_by_threads.Goals as goal
+use Rattle.slicing_tests.proofs.claims.drawn_by_threads.Goals as goal
 
 pub loop-pass-preserved : goal.loop-pass-preserved
 loop-pass-preserved g c =

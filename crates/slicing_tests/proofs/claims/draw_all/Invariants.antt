@@ -1,5 +1,5 @@
 use Rattle.stripe_claims.specs.Claims.{IsOwned}
-use Rattle.layer_tests.proofs.claims.draw_all.Given as goal
+use Rattle.slicing_tests.proofs.claims.draw_all.Given as goal
 
 abbrev pub invariant-loop : goal.invariant-loop
 invariant-loop l = IsOwned l.claims l.pass

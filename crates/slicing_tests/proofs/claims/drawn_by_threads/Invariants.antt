@@ -1,7 +1,7 @@
 use Rattle.std.proofs.Common.{All, length, ℕ, Vec, Global}
 use Rattle.stripe_claims.specs.Claims.{Pass}
 use Rattle.stripe_claims.specs.Claims.{IsOwned}
-use Rattle.layer_tests.proofs.claims.drawn_by_threads.Given as goal
+use Rattle.slicing_tests.proofs.claims.drawn_by_threads.Given as goal
 
 abbrev pub invariant-loop-pass : goal.invariant-loop-pass
 invariant-loop-pass g l = record {
