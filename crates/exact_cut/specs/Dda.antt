@@ -33,8 +33,20 @@ increment_of d = d.increment *ℤ d.unit -ℤ d.increment_remainder
 abbrev pub next : Dda → Dda
 next d =
     if int_lt (d.remainder +ℤ d.increment_remainder) d.unit
-    then record { unit = d.unit; whole = d.whole +ℤ d.increment; remainder = d.remainder +ℤ d.increment_remainder; increment = d.increment; increment_remainder = d.increment_remainder }
-    else record { unit = d.unit; whole = d.whole +ℤ d.increment -ℤ pos 1; remainder = d.remainder +ℤ d.increment_remainder -ℤ d.unit; increment = d.increment; increment_remainder = d.increment_remainder }
+    then record {
+      unit = d.unit;
+      whole = d.whole +ℤ d.increment;
+      remainder = d.remainder +ℤ d.increment_remainder;
+      increment = d.increment;
+      increment_remainder = d.increment_remainder;
+    }
+    else record {
+      unit = d.unit;
+      whole = d.whole +ℤ d.increment -ℤ pos 1;
+      remainder = d.remainder +ℤ d.increment_remainder -ℤ d.unit;
+      increment = d.increment;
+      increment_remainder = d.increment_remainder;
+    }
 
 -- the columns at this number of steps
 abbrev pub columns_along : ℕ → ℕ → Dda → List ℕ

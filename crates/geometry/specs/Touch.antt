@@ -23,6 +23,9 @@ pub record Between (t : Facet) (p q : Point) : Type 0 where
   pub of_p : ℕ
   pub of_q : ℕ
   pub some_end : 0 < of_p + of_q
-  pub mean_x : pos (of_p + of_q) *ℤ (pos of_a *ℤ t.a.x +ℤ pos of_b *ℤ t.b.x +ℤ pos of_c *ℤ t.c.x) ≡ pos (of_a + of_b + of_c) *ℤ (pos of_p *ℤ p.x +ℤ pos of_q *ℤ q.x)
-  pub mean_y : pos (of_p + of_q) *ℤ (pos of_a *ℤ t.a.y +ℤ pos of_b *ℤ t.b.y +ℤ pos of_c *ℤ t.c.y) ≡ pos (of_a + of_b + of_c) *ℤ (pos of_p *ℤ p.y +ℤ pos of_q *ℤ q.y)
-  pub mean_z : pos (of_p + of_q) *ℤ (pos of_a *ℤ t.a.z +ℤ pos of_b *ℤ t.b.z +ℤ pos of_c *ℤ t.c.z) ≡ pos (of_a + of_b + of_c) *ℤ (pos of_p *ℤ p.z +ℤ pos of_q *ℤ q.z)
+  pub mean_x : pos (of_p + of_q) *ℤ (pos of_a *ℤ t.a.x +ℤ pos of_b *ℤ t.b.x +ℤ pos of_c *ℤ t.c.x)
+      ≡ pos (of_a + of_b + of_c) *ℤ (pos of_p *ℤ p.x +ℤ pos of_q *ℤ q.x)
+  pub mean_y : pos (of_p + of_q) *ℤ (pos of_a *ℤ t.a.y +ℤ pos of_b *ℤ t.b.y +ℤ pos of_c *ℤ t.c.y)
+      ≡ pos (of_a + of_b + of_c) *ℤ (pos of_p *ℤ p.y +ℤ pos of_q *ℤ q.y)
+  pub mean_z : pos (of_p + of_q) *ℤ (pos of_a *ℤ t.a.z +ℤ pos of_b *ℤ t.b.z +ℤ pos of_c *ℤ t.c.z)
+      ≡ pos (of_a + of_b + of_c) *ℤ (pos of_p *ℤ p.z +ℤ pos of_q *ℤ q.z)

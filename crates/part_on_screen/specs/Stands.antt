@@ -28,7 +28,8 @@ pub record IsBetweenSides (s : Screen) (low high : Point) (g : Grid) : Type 0 wh
   pub back : high.y ≤ℤ (g.origin.y +ℤ pos (screen_depth s))
 
 abbrev pub PartsAreOnScreen : Type 0
-PartsAreOnScreen = (s : Screen) (low high : Point) (layer_height : ℕ) (g : Grid) → IsBox low high → IsGridOn s low high layer_height g → IsBetweenSides s low high g
+PartsAreOnScreen = (s : Screen) (low high : Point) (layer_height : ℕ) (g : Grid) → IsBox low high → IsGridOn s low high layer_height g
+    → IsBetweenSides s low high g
 
 -- facets on a screen have a grid or a fault, and not two of them
 pub record HasOneOutcome (s : Screen) (facets : List Facet) (layer_height : ℕ) : Type 0 where

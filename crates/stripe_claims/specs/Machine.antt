@@ -162,4 +162,5 @@ NeverTwice m =
 
 -- once a hand has found a number at `stripes` or above, each number below `stripes` has been found
 abbrev pub EndsLast : Plan → Moment → Type 0
-EndsLast plan m = (i : ℕ) (h : Hand) → get_elem? m.hands i ≡ some h → 0 < beyond plan.stripes h.found → (x : ℕ) → x < plan.stripes → times x (all_found m.hands) ≡ 1
+EndsLast plan m = (i : ℕ) (h : Hand) → get_elem? m.hands i ≡ some h → 0 < beyond plan.stripes h.found
+    → (x : ℕ) → x < plan.stripes → times x (all_found m.hands) ≡ 1

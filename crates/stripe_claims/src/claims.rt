@@ -105,7 +105,8 @@ impl<A: Allocator + Copy> Claims<A> {
 
     /// Cuts one pass off the seat, which stands for several and has found nothing.
     fn cut(&self, rest: &mut Seat<(), View>) -> Pass
-        requires seat { (rest.old.table_id ≡ self.now.name) × (rest.old.me.0.plan ≡ plan_of self.now) × (1 < rest.old.me.0.stands_for) × (rest.old.me.0.found ≡ []) }
+        requires seat { (rest.old.table_id ≡ self.now.name) × (rest.old.me.0.plan ≡ plan_of self.now)
+            × (1 < rest.old.me.0.stands_for) × (rest.old.me.0.found ≡ []) }
         ensures rest { (rest.new.table_id ≡ rest.old.table_id) × (rest.new.me ≡ (one_less rest.old.me.0, rest.old.me.1)) }
         ensures owned { IsOwned self.now result }
         ensures fresh { IsFresh result }
@@ -160,7 +161,8 @@ impl<A: Allocator + Copy> Claims<A> {
         // for all passes that were opened
         ensures whole { length passes.items ≡ self.passes → IsEachOnce result (found_by_all passes.items) }
         ensures all { length passes.items ≡ self.passes → length (found_by_all passes.items) ≡ result }
-        ensures given { length passes.items ≡ self.passes → All (λ p. p.has_ended ≡ true) passes.items → IsEachOnce self.stripes (given self.stripes (found_by_all passes.items)) }
+        ensures given { length passes.items ≡ self.passes → All (λ p. p.has_ended ≡ true) passes.items
+            → IsEachOnce self.stripes (given self.stripes (found_by_all passes.items)) }
     {
         match self.gather(passes) {
             Some(all) => self.word_with(all),

@@ -27,9 +27,11 @@ impl<A: Allocator + Copy> FirstNumbers<A> {
     /// numbers.
     fn number(&mut self, ids: &[[u32; 3]], count: usize) -> Result<bool, AllocError>
         requires few { self.old.facets ≤ length ids.now }
-        requires first { AreNumbered (half_edges_from 0 (take self.old.facets ids.now)) self.old.chains.heads.items self.old.chains.edges.items self.old.numbers.items }
+        requires first { AreNumbered (half_edges_from 0 (take self.old.facets ids.now))
+            self.old.chains.heads.items self.old.chains.edges.items self.old.numbers.items }
         ensures all { IfOk result (λ served. IsTrue served → self.new.facets ≡ length ids.now) }
-        ensures numbers { IfOk result (λ served. IsTrue served → AreNumbered (half_edges_from 0 ids.now) self.new.chains.heads.items self.new.chains.edges.items self.new.numbers.items) }
+        ensures numbers { IfOk result (λ served. IsTrue served → AreNumbered (half_edges_from 0 ids.now)
+            self.new.chains.heads.items self.new.chains.edges.items self.new.numbers.items) }
     {
         self.chains.add_vertices(count)?;
         for at in self.facets..ids.len() {
@@ -81,7 +83,8 @@ impl<A: Allocator> Model for NumberedFacets<A> {
 
     ghost view = { λ f. f.ids.items };
 
-    ghost invariant = { λ f. IfSome f.first (λ own. (own.facets ≤ length f.ids.items) × AreNumbered (half_edges_from 0 (take own.facets f.ids.items)) own.chains.heads.items own.chains.edges.items own.numbers.items) };
+    ghost invariant = { λ f. IfSome f.first (λ own. (own.facets ≤ length f.ids.items)
+        × AreNumbered (half_edges_from 0 (take own.facets f.ids.items)) own.chains.heads.items own.chains.edges.items own.numbers.items) };
 }
 
 impl<A: Allocator + Copy> NumberedFacets<A> {

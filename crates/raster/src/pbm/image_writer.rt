@@ -97,7 +97,8 @@ fn push_image<W: Sink>(
     ensures held { IfOk result (λ total. chunk.new ≡ drop (total - before)
         (pending chunk.old g.now spans.now)) }
     ensures few { IfOk result (λ total. total + length chunk.new ≤ before + length chunk.old + image_limit) }
-    ensures err { IfErr result (λ fault. IsCutOff (transcript_of W.contents W.Failures.failure_count w.old w.new) (pending chunk.old g.now spans.now) before fault.written) }
+    ensures err { IfErr result (λ fault. IsCutOff (transcript_of W.contents W.Failures.failure_count w.old w.new)
+        (pending chunk.old g.now spans.now) before fault.written) }
 {
     let needed = g.columns().div_ceil(8) as usize;
     let mut written = chunk.make_room(HEADER_LIMIT, w, before)?;
