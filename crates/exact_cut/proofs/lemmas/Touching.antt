@@ -18,7 +18,7 @@ use Rattle.exact_cut.proofs.lemmas.Ahead.{Sides, all_below, all_above, between, 
 use Rattle.exact_cut.proofs.lemmas.Rays.{Apart, hits-differ, hit-taken, hit_y-taken, wind_y-is, corner-quiet, turn_x-quiet}
 
 -- by whole numbers that are not negative
-touches_from : (t : Facet) (p : Point) (l m n : ℤ) → pos 0 ≤ℤ l → pos 0 ≤ℤ m → pos 0 ≤ℤ n → pos 0 <ℤ (l +ℤ m +ℤ n)
+pub touches_from : (t : Facet) (p : Point) (l m n : ℤ) → pos 0 ≤ℤ l → pos 0 ≤ℤ m → pos 0 ≤ℤ n → pos 0 <ℤ (l +ℤ m +ℤ n)
     → l *ℤ t.a.x +ℤ m *ℤ t.b.x +ℤ n *ℤ t.c.x ≡ (l +ℤ m +ℤ n) *ℤ p.x
     → l *ℤ t.a.y +ℤ m *ℤ t.b.y +ℤ n *ℤ t.c.y ≡ (l +ℤ m +ℤ n) *ℤ p.y
     → l *ℤ t.a.z +ℤ m *ℤ t.b.z +ℤ n *ℤ t.c.z ≡ (l +ℤ m +ℤ n) *ℤ p.z → Touches t p

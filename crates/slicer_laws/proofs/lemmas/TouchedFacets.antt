@@ -12,22 +12,12 @@ use Rattle.exact_cut.specs.Cut.{finish, start, Rises}
 use Rattle.exact_cut.specs.CutPoint.{cut_d, cut_y}
 use Rattle.exact_cut.proofs.lemmas.Ahead.{WindCase, winds_up, winds_down, winds_not, wind_case, crosses, cut-left, cut-left_down, Sides, all_below, all_above, between, sides, wind-below, wind-above}
 use Rattle.exact_cut.proofs.lemmas.Steps.{Mean, crossing-mean}
+use Rattle.exact_cut.proofs.lemmas.Touching.{touches_from}
 use Rattle.exact_cut.proofs.lemmas.Winds.{Passes, passes, den_of, num_of}
-
--- by whole weights of the corners
-touches_by : (t : Facet) (p : Point) (l m n : ℤ) → pos 0 ≤ℤ l → pos 0 ≤ℤ m → pos 0 ≤ℤ n → pos 0 <ℤ (l +ℤ m +ℤ n)
-    → l *ℤ t.a.x +ℤ m *ℤ t.b.x +ℤ n *ℤ t.c.x ≡ (l +ℤ m +ℤ n) *ℤ p.x
-    → l *ℤ t.a.y +ℤ m *ℤ t.b.y +ℤ n *ℤ t.c.y ≡ (l +ℤ m +ℤ n) *ℤ p.y
-    → l *ℤ t.a.z +ℤ m *ℤ t.b.z +ℤ n *ℤ t.c.z ≡ (l +ℤ m +ℤ n) *ℤ p.z → Touches t p
-touches_by t p (pos l) (pos m) (pos n) a b c s x y z =
-    record { of_a = l; of_b = m; of_c = n; some = omega (arith, ints); mean_x = x; mean_y = y; mean_z = z }
-touches_by t p (pos l) (pos m) (negsuc n) a b c s x y z = absurd (omega (arith, ints))
-touches_by t p (pos l) (negsuc m) n a b c s x y z = absurd (omega (arith, ints))
-touches_by t p (negsuc l) m n a b c s x y z = absurd (omega (arith, ints))
 
 mean-touches : (t : Facet) (c : Point) (num den : ℤ) → Mean t num den c.y c.z → pos 0 <ℤ den → num ≡ den *ℤ c.x → Touches t c
 mean-touches t c num den mean some there =
-    touches_by t c mean.l mean.m mean.n mean.l_in mean.m_in mean.n_in (subst (λ (k : ℤ). pos 0 <ℤ k) (sym mean.total) some)
+    touches_from t c mean.l mean.m mean.n mean.l_in mean.m_in mean.n_in (subst (λ (k : ℤ). pos 0 <ℤ k) (sym mean.total) some)
     (mean.mean_x ∙ there ∙ ap (λ k. k *ℤ c.x) (sym mean.total))
     (mean.mean_y ∙ ap (λ k. k *ℤ c.y) (sym mean.total))
     (mean.mean_z ∙ ap (λ k. k *ℤ c.z) (sym mean.total))
