@@ -3,7 +3,7 @@ use std::alloc::{AllocError, Global};
 use std::fmt::Write;
 use stl_text::Point;
 use stlslice::RunFault;
-use test_meshes::{BOX, CORNERS, INWARD, Part, text_of};
+use test_meshes::{BOX, CORNERS, INWARD, OPEN_BOX, Part, text_of};
 
 /// A mesh, as the tables of the tests name it.
 #[derive(Clone, Copy)]
@@ -31,29 +31,14 @@ pub(crate) fn mesh_text(alloc: Global, mesh: Mesh<'_>) -> Result<String, AllocEr
     }
 }
 
-/// The facets of the cube but its first one.
-const ELEVEN: &[[u8; 3]] = &[
-    [0, 6, 4],
-    [1, 5, 7],
-    [1, 7, 3],
-    [0, 4, 5],
-    [0, 5, 1],
-    [2, 3, 7],
-    [2, 7, 6],
-    [0, 1, 3],
-    [0, 3, 2],
-    [4, 6, 7],
-    [4, 7, 5],
-];
-
 /// A facet with two equal corners.
 const DEGENERATE: &[[u8; 3]] = &[[0, 0, 4]];
 
 /// The cube without its first facet.
-pub(crate) const OPEN: &[Part] = &[(CORNERS, ELEVEN)];
+pub(crate) const OPEN: &[Part] = &[(CORNERS, OPEN_BOX)];
 
 /// The same, and a facet with two equal corners.
-pub(crate) const OPEN_AND_FLAT: &[Part] = &[(CORNERS, ELEVEN), (CORNERS, DEGENERATE)];
+pub(crate) const OPEN_AND_FLAT: &[Part] = &[(CORNERS, OPEN_BOX), (CORNERS, DEGENERATE)];
 
 /// A facet with two equal corners alone.
 pub(crate) const FLAT: &[Part] = &[(CORNERS, DEGENERATE)];

@@ -24,24 +24,34 @@ macro_rules! corners {
     };
 }
 
-/// The facets of a box by the numbers of its corners. In these 4 stands for the greater x, 2 for the greater y, 1 for
-/// the greater z.
-pub const BOX: &[[u8; 3]] = &[
-    [0, 2, 6],
-    [0, 6, 4],
-    [1, 5, 7],
-    [1, 7, 3],
-    [0, 4, 5],
-    [0, 5, 1],
-    [2, 3, 7],
-    [2, 7, 6],
-    [0, 1, 3],
-    [0, 3, 2],
-    [4, 6, 7],
-    [4, 7, 5],
-];
+/// The facets of a box by the numbers of its corners, behind these. In the numbers 4 stands for the greater x, 2 for the greater
+/// y, 1 for the greater z.
+macro_rules! facets_behind {
+    ($($first:expr),*) => {
+        &[
+            $($first,)*
+            [0, 6, 4],
+            [1, 5, 7],
+            [1, 7, 3],
+            [0, 4, 5],
+            [0, 5, 1],
+            [2, 3, 7],
+            [2, 7, 6],
+            [0, 1, 3],
+            [0, 3, 2],
+            [4, 6, 7],
+            [4, 7, 5],
+        ]
+    };
+}
 
-/// The same facets inward: each with its last two corners exchanged.
+/// The facets of a box.
+pub const BOX: &[[u8; 3]] = facets_behind![[0, 2, 6]];
+
+/// The same without the first one.
+pub const OPEN_BOX: &[[u8; 3]] = facets_behind![];
+
+/// The facets of a box inward: each with its last two corners exchanged.
 pub const INWARD: &[[u8; 3]] = &[
     [0, 6, 2],
     [0, 4, 6],
