@@ -10,52 +10,43 @@ use short_memory::{InterruptedOnce, SmallWriter};
 use std::alloc::Global;
 use std::io::ErrorKind;
 
-/// Writes three images through one writer, and returns how many bytes went out. The second one is white; the spans are those
-/// of the first and the third.
-fn write_by_one<W: Sink>(
-    outer: &Grid,
-    spans: &[Span],
-    inner: &Grid,
-    w: &mut W,
-) -> Result<u64, WriteFault>
-    requires { AreSpans outer.now.columns outer.now.rows spans.now }
-{
-    let mut writer = ImageWriter::new();
-    writer.add(outer, spans, w)?;
-    writer.add(inner, &[], w)?;
-    writer.add(outer, spans, w)?;
-    writer.finish(w)
+/// Three images. The first and the third have these spans, the second is white.
+#[derive(Drop)]
+struct Images<'a> {
+    outer: &'a Grid,
+    spans: &'a [Span],
+    inner: &'a Grid,
+    ghost form: { AreSpans outer.now.columns outer.now.rows spans.now },
 }
 
-/// The bytes of these images, each of which is written by itself.
-fn text_of(alloc: Global, outer: &Grid, spans: &[Span], inner: &Grid) -> Option<Vec<u8>>
-    requires { AreSpans outer.now.columns outer.now.rows spans.now }
-{
-    let mut w = Counted::new(Vec::new(alloc));
-    if write_layer(outer, spans, &mut w).is_ok()
-        && write_layer(inner, &[], &mut w).is_ok()
-        && write_layer(outer, spans, &mut w).is_ok()
-    {
-        return Some(w.into_inner());
+impl<'a> Images<'a> {
+    /// Writes the images through one writer, and returns how many bytes went out.
+    fn write_by_one<W: Sink>(&self, w: &mut W) -> Result<u64, WriteFault> {
+        let mut writer = ImageWriter::new();
+        writer.add(self.outer, self.spans, w)?;
+        writer.add(self.inner, &[], w)?;
+        writer.add(self.outer, self.spans, w)?;
+        writer.finish(w)
     }
-    None
+
+    /// The bytes of the images, each of which is written by itself.
+    fn text(&self, alloc: Global) -> Option<Vec<u8>> {
+        let mut w = Counted::new(Vec::new(alloc));
+        if write_layer(self.outer, self.spans, &mut w).is_ok()
+            && write_layer(self.inner, &[], &mut w).is_ok()
+            && write_layer(self.outer, self.spans, &mut w).is_ok()
+        {
+            return Some(w.into_inner());
+        }
+        None
+    }
 }
 
 /// Whether exactly the first bytes of the images' text go out to a writer of this way up to its room, with one failure if these
 /// are not all.
-fn is_filled(
-    alloc: Global,
-    outer: &Grid,
-    spans: &[Span],
-    inner: &Grid,
-    text: &[u8],
-    way: Way,
-    room: usize,
-) -> bool
-    requires { AreSpans outer.now.columns outer.now.rows spans.now }
-{
+fn is_filled(alloc: Global, images: &Images<'_>, text: &[u8], way: Way, room: usize) -> bool {
     let mut w = writer(alloc, way, room);
-    let found = write_by_one(outer, spans, inner, &mut w);
+    let found = images.write_by_one(&mut w);
     let written = room.min(text.len());
     let told = if room < text.len() {
         Err(WriteFault {
@@ -81,15 +72,12 @@ fn grid_of(columns: u32, rows: u32) -> Option<Grid>
 fn is_text_filled(alloc: Global, way: Way, room: usize) -> bool {
     match (grid_of(2, 2), grid_of(9, 1)) {
         (Some(outer), Some(inner)) => {
-            is_filled(
-                alloc,
-                &outer,
-                &spans![0: 0, 1; 1: 0, 2],
-                &inner,
-                TEXT,
-                way,
-                room,
-            )
+            let images = Images {
+                outer: &outer,
+                spans: &spans![0: 0, 1; 1: 0, 2],
+                inner: &inner,
+            };
+            is_filled(alloc, &images, TEXT, way, room)
         }
         _ => false,
     }
@@ -107,23 +95,13 @@ fn each_beginning_of_three_images(rt: HostRuntime) {
 }
 
 /// Whether the call of the sink after this many calls begins at this byte of the images' text. That call is interrupted.
-fn begins_at(
-    alloc: Global,
-    outer: &Grid,
-    spans: &[Span],
-    inner: &Grid,
-    text: &[u8],
-    calls: usize,
-    byte: usize,
-) -> bool
-    requires { AreSpans outer.now.columns outer.now.rows spans.now }
-{
+fn begins_at(alloc: Global, images: &Images<'_>, text: &[u8], calls: usize, byte: usize) -> bool {
     let writer = SmallWriter::new(alloc, usize::MAX, usize::MAX, None, true);
     let mut w = Counted::new(InterruptedOnce {
         inner: writer,
         calls: Some(calls as u64),
     });
-    let found = write_by_one(outer, spans, inner, &mut w);
+    let found = images.write_by_one(&mut w);
     let written = byte as u64;
     let told = if byte < text.len() {
         Err(WriteFault { written })
@@ -135,26 +113,17 @@ fn begins_at(
 
 /// Whether the text of three images goes out in calls of the sink that end at these bytes. Also whether a writer is filled that
 /// has room up to the byte before each of them.
-fn are_ends(
-    alloc: Global,
-    outer: &Grid,
-    spans: &[Span],
-    inner: &Grid,
-    text: &[u8],
-    ends: &[usize],
-) -> bool
-    requires { AreSpans outer.now.columns outer.now.rows spans.now }
-{
+fn are_ends(alloc: Global, images: &Images<'_>, text: &[u8], ends: &[usize]) -> bool {
     let way = (1000, Some(ErrorKind::Other));
     for (calls, end) in ends.iter().enumerate() {
         let room = end.saturating_sub(1);
-        if !begins_at(alloc, outer, spans, inner, text, calls + 1, *end)
-            || !is_filled(alloc, outer, spans, inner, text, way, room)
+        if !begins_at(alloc, images, text, calls + 1, *end)
+            || !is_filled(alloc, images, text, way, room)
         {
             return false;
         }
     }
-    begins_at(alloc, outer, spans, inner, text, 0, 0) && ends.last() == Some(&text.len())
+    begins_at(alloc, images, text, 0, 0) && ends.last() == Some(&text.len())
 }
 
 /// Whether three images go out in calls of the sink that end at these bytes. The first and the third are 8 pixels wide, the
@@ -169,8 +138,13 @@ fn ends_at(
     requires { AreSpans 8 outer_rows spans.now }
 {
     let (outer, inner) = grid_of(8, outer_rows).zip(grid_of(COLUMN_LIMIT, inner_rows))?;
-    match text_of(alloc, &outer, spans, &inner) {
-        Some(text) => Some(are_ends(alloc, &outer, spans, &inner, text.as_slice(), ends)),
+    let images = Images {
+        outer: &outer,
+        spans,
+        inner: &inner,
+    };
+    match images.text(alloc) {
+        Some(text) => Some(are_ends(alloc, &images, text.as_slice(), ends)),
         None => None,
     }
 }
