@@ -31,7 +31,7 @@ abbrev pub IsFacetFault : LengthUnit → List ℕ → ℕ → BinaryFault → Ty
 IsFacetFault unit bytes facet (fault.Number cause f corner axis) =
     (f ≡ facet) × (corner < 3)
     × ((c a : ℕ) → c < 3 → a < 3 → coordinates_before facet c a < coordinates_before facet corner (axis_number axis)
-        → IsOk (coordinate_at unit bytes facet c a))
+    → IsOk (coordinate_at unit bytes facet c a))
     × (coordinate_at unit bytes facet corner (axis_number axis) ≡ Err cause)
 IsFacetFault unit bytes facet fault.Ended = ⊥
 IsFacetFault unit bytes facet (fault.Length facets wanted found) = ⊥

@@ -39,8 +39,13 @@ impl<'t> Model for Layout<'t> {
 
     ghost view = { λ l. record { opening = l.opening.now; first = l.first.now; next = l.next.now; closing = l.closing.now; words_len = l.words_len } };
 
-    ghost invariant = { λ l. IsLayout (record { opening = l.opening.now; first = l.first.now; next = l.next.now; closing = l.closing.now;
-        words_len = l.words_len }) };
+    ghost invariant = { λ l. IsLayout (record {
+      opening = l.opening.now;
+      first = l.first.now;
+      next = l.next.now;
+      closing = l.closing.now;
+      words_len = l.words_len;
+    }) };
 }
 
 impl<'t> Reader<'t> {

@@ -117,8 +117,15 @@ impl<A: Allocator> Model for TextReader<A> {
 
     ghost Value = { TextReader };
 
-    ghost view = { λ r. record { limit = r.limit; unit = r.unit; count = r.count; state = r.state; held = r.held.items; held_at = r.held_at;
-        facets = r.facets.items } };
+    ghost view = { λ r. record {
+      limit = r.limit;
+      unit = r.unit;
+      count = r.count;
+      state = r.state;
+      held = r.held.items;
+      held_at = r.held_at;
+      facets = r.facets.items;
+    } };
 }
 
 impl<A: Allocator + Copy> TextReader<A> {
