@@ -1,6 +1,6 @@
-//! Linking finds the loops of a plane's segments in time and memory of their number, however large the mesh is. So the edges at
-//! which they start and end get numbers of their own, by an `EdgeTable`. A slot is a position in the plane's list. The segments
-//! that start at an edge form a linked list:
+//! Linking finds the loops of a plane's segments in memory of their number, however large the mesh is. So the edges at which they
+//! start and end get numbers of their own, by an `EdgeTable`. The time is of their number too, unless most of these edges fall
+//! into one bucket of the table. A slot is a position in the plane's list. The segments that start at an edge form a linked list:
 //! - `heads[e]` is the slot of the first segment that starts at the edge with the number `e`;
 //! - `after[i]` is the slot of the next segment that starts at the same edge as that in slot `i`;
 //! - [`NONE`] is the end of a list.

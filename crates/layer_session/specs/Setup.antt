@@ -1,4 +1,4 @@
--- What a text or arrays are opened with.
+-- What a file, a text or arrays are opened with.
 use Rattle.geometry.specs.Limits.{IsStep}
 use Rattle.layer_session.specs.Place.{HasPitch}
 use Rattle.layer_session.specs.declared.setup.Setup.{Setup}

@@ -1,4 +1,4 @@
-//! What a text or arrays are opened with.
+//! What a file, a text or arrays are opened with.
 ghost use Rattle.std.specs.Prelude.{◌≡◌, ◌↔◌, IfErr, IsTrue, OnOk};
 ghost use Rattle.geometry.specs.Limits.{IsStep};
 ghost use Rattle.layer_session.specs.Setup.{HasSteps};
@@ -10,10 +10,10 @@ use geometry::STEP_LIMIT;
 use micro_num::Unit;
 use raster::Rule;
 
-/// How a text is read, and how a mesh is cut into voxels.
+/// How a file or a text is read, and how a mesh is cut into voxels.
 #[derive(Clone, Copy, Debug, PartialEq, Eq)]
 pub struct Setup {
-    /// The unit of the text's numbers. Arrays are in micrometres, whatever it is.
+    /// The unit of the numbers in a file or a text. Arrays are in micrometres, whatever it is.
     pub unit: Unit,
     /// The length of a voxel along z, in micrometres: 1 to `STEP_LIMIT`.
     pub layer: u32,

@@ -30,10 +30,12 @@ pub record IsScreen (s : Screen) : Type 0 where
   pub times_x : 1 ≤ s.times_x
   pub times_y : 1 ≤ s.times_y
 
--- the screen with these pixels, for parts that are turned so
+-- The screen with these pixels, for parts that are turned so. None is within its limits if `IsNoScreen` has a fault.
 pub record IsScreenOf (columns rows : ℕ) (width depth : PixelSide) (turn : Quarters) (s : Screen) : Type 0 where
   pub columns_are : s.columns ≡ columns
   pub rows_are : s.rows ≡ rows
+  pub width_is : IsSide width
+  pub depth_is : IsSide depth
   pub pitch_is : IsPitch s.pitch width depth
   pub times_x_is : IsTimes s.pitch width s.times_x
   pub times_y_is : IsTimes s.pitch depth s.times_y

@@ -74,12 +74,13 @@ IsAreaAnswer job k old new status =
     ⊎ ((k < job.grid.layers) × (new ≡ old) × (status ≡ MEMORY))
     ⊎ ((job.grid.layers ≤ k) × (new ≡ old) × (status ≡ OUT_OF_RANGE))
 
--- the numbers of pixels that a rule fills of as many layers, from layer `first` on, as there are places
+-- The numbers of pixels that a rule fills of as many layers, from layer `first` on, as there are places: put; or no memory for
+-- them; or there is no such rule or not all of these layers.
 abbrev pub IsAreasAnswer : Job → ℕ → ℕ → List ℕ → List ℕ → ℕ → Type 0
 IsAreasAnswer job number first old new status =
     ((rule : Rule) × (rule_numbered number ≡ Some rule) × (first + length old ≤ job.grid.layers)
     × (new ≡ areas_of job rule first (length old)) × (status ≡ DONE))
-    ⊎ ((first + length old ≤ job.grid.layers) × (new ≡ old) × (status ≡ MEMORY))
+    ⊎ ((rule : Rule) × (rule_numbered number ≡ Some rule) × (first + length old ≤ job.grid.layers) × (new ≡ old) × (status ≡ MEMORY))
     ⊎ (((rule_numbered number ≡ None) ⊎ (job.grid.layers < first + length old)) × (new ≡ old) × (status ≡ OUT_OF_RANGE))
 
 abbrev pub IsProbeAnswer : Job → ℕ → ℕ → ℕ → Rays → Rays → ℕ → Type 0

@@ -1,5 +1,5 @@
--- What the numbers stand for with which C opens a text or arrays, and asks for a PNG.
-use Rattle.std.specs.Prelude.{◌≡◌, ℕ, true, false, Option, Some, None, if◌then◌else◌, nat_eq}
+-- What the numbers stand for with which C opens a file or arrays, and asks for a PNG or for areas.
+use Rattle.std.specs.Prelude.{◌≡◌, ◌⊎◌, ℕ, true, false, Option, Some, None, if◌then◌else◌, nat_eq}
 use Rattle.geometry.specs.Point.{IsMeshPoint}
 use Rattle.micro_num.specs.declared.unit.Unit.{Unit as LengthUnit}
 use Rattle.micro_num.specs.declared.unit.Unit.TheVariants as unit
@@ -13,7 +13,7 @@ use Rattle.layer_png.specs.declared.mirrors.Mirrors.{Mirrors}
 use Rattle.layer_session.specs.declared.place.Place.{Place}
 use Rattle.layer_session.specs.declared.place.Place.TheVariants as place
 use Rattle.layer_session.specs.declared.setup.Setup.{Setup}
-use Rattle.part_on_screen.specs.Screen.{IsNoScreen, IsScreenOf, Screen}
+use Rattle.part_on_screen.specs.Screen.{IsNoScreen, IsScreen, IsScreenOf, Screen}
 use Rattle.part_on_screen.specs.Turned.{quarters}
 use Rattle.part_on_screen.specs.declared.pixel_side.PixelSide.{PixelSide}
 use Rattle.part_on_screen.specs.declared.quarters.Quarters.{Quarters}
@@ -61,9 +61,9 @@ side_of side = record { numerator = side.numerator; denominator = side.denominat
 -- the screen with the pixels of the options, and with parts turned by as many quarters
 abbrev pub IsScreenAsked : Options → Screen → Type 0
 IsScreenAsked o s = (turn : Quarters) × (quarters turn ≡ o.turn)
-    × IsScreenOf o.cells.columns o.cells.rows (side_of o.width) (side_of o.depth) turn s
+    × IsScreenOf o.cells.columns o.cells.rows (side_of o.width) (side_of o.depth) turn s × IsScreen s
 
--- no turn has this number, or there is no screen with these pixels
+-- no turn has this number; or one has it, and there is no screen with these pixels
 abbrev pub IsNoScreenAsked : Options → NoSetup → Type 0
 IsNoScreenAsked o none.Number = (turn : Quarters) → quarters turn ≡ o.turn → ⊥
 IsNoScreenAsked o (none.Screen cause) = (turn : Quarters) × (quarters turn ≡ o.turn)
@@ -74,8 +74,9 @@ abbrev pub IsPlace : Options → Place → Type 0
 IsPlace o (place.Grid pitch placing) = (pitch ≡ o.pitch) × IsPlaced o placing
 IsPlace o (place.Screen s) = (o.placing ≡ 2) × IsScreenAsked o s
 
+-- no grid has these numbers, and if it is a screen, no turn has its number; or the cause is of the screen's pixels alone
 abbrev pub IsNoPlace : Options → NoSetup → Type 0
-IsNoPlace o none.Number = (at : Place) → IsPlace o at → ⊥
+IsNoPlace o none.Number = ((placing : Placing) → IsPlaced o placing → ⊥) × (o.placing ≡ 2 → IsNoScreenAsked o none.Number)
 IsNoPlace o (none.Screen cause) = (o.placing ≡ 2) × IsNoScreenAsked o (none.Screen cause)
 
 -- the setup that the options stand for
@@ -93,7 +94,8 @@ pub record IsScreenRefused (o : Options) (cause : ScreenFault) : Type 0 where
   pub rule_is : rule_numbered o.rule ≡ Some rule
   pub place : IsNoPlace o (none.Screen cause)
 
--- a number of the options stands for nothing, or there is no screen with these pixels
+-- Why options stand for no setup, which has one reason: a number stands for nothing; or all do for something, and there is no
+-- screen with these pixels.
 abbrev pub IsNoSetup : Options → NoSetup → Type 0
-IsNoSetup o none.Number = (setup : Setup) → IsSetup o setup → ⊥
+IsNoSetup o none.Number = (unit_numbered o.unit ≡ None) ⊎ (rule_numbered o.rule ≡ None) ⊎ IsNoPlace o none.Number
 IsNoSetup o (none.Screen cause) = IsScreenRefused o cause

@@ -1,4 +1,4 @@
--- What C gets of a text's facets and of an open mesh.
+-- What C gets of a file's facets and of an open mesh.
 use Rattle.std.specs.Prelude.{ℕ, Option, Some, None, pos}
 use Rattle.geometry.specs.Point.{Point}
 use Rattle.raster.specs.Grid.{Grid}

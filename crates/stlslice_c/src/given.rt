@@ -38,7 +38,7 @@ fn refused(line: &mut [u8], line_room: usize) -> Status
     OUT_OF_RANGE
 }
 
-/// Puts the number and the box of a text's facets.
+/// Puts the number and the box of a file's facets.
 pub(crate) fn box_of(
     alloc: Global,
     text: &[u8],

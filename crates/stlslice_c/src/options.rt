@@ -1,4 +1,5 @@
-//! The numbers with which C opens a text or arrays, and asks for a PNG. C may pass any number, so each is checked here.
+//! The numbers with which C opens a file or arrays, and asks for a PNG or for areas. C may pass any number, so each is checked
+//! here.
 ghost use Rattle.std.specs.Prelude.{◌≡◌, IfErr, IfNone, IfOk, IfSome};
 ghost use Rattle.raster.specs.declared.placing.Placing.{Placing};
 ghost use Rattle.layer_session.specs.declared.setup.Setup.{Setup};
@@ -31,7 +32,7 @@ impl Side {
     }
 }
 
-/// How a file is read, and how its mesh is cut into voxels.
+/// How a file is read, and how a mesh is cut into voxels.
 #[repr(C)]
 #[derive(Clone, Copy)]
 pub struct Options {
@@ -41,7 +42,7 @@ pub struct Options {
     pub layer: u32,
     /// 0 even-odd, 1 non-zero, 2 positive.
     pub rule: u32,
-    /// 0 millimetres, 1 inches, 2 centimetres, 3 metres.
+    /// Of a file's numbers: 0 millimetres, 1 inches, 2 centimetres, 3 metres. Of no effect on arrays.
     pub unit: u32,
     /// 0 a grid that fits the mesh, 1 the one of `cells`, 2 a screen.
     pub placing: u32,
@@ -110,7 +111,11 @@ impl Options {
         };
         let (width, depth) = (self.width.of_pixel(), self.depth.of_pixel());
         match Screen::new(self.cells.columns, self.cells.rows, width, depth, turn) {
-            Ok(screen) => Ok(screen),
+            Ok(screen) => {
+                // wakes the invariant: a screen has pixels, and its pitch is a step
+                screen.hold_limits();
+                Ok(screen)
+            }
             Err(fault) => Err(NoSetup::Screen(fault)),
         }
     }

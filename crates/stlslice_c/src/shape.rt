@@ -1,4 +1,4 @@
-//! The plain records that C gets of a text's facets, of an open mesh and of a voxel.
+//! The plain records that C gets of a file's facets, of an open mesh and of a voxel.
 ghost use Rattle.std.specs.Prelude.{◌≡◌};
 ghost use Rattle.stlslice_c.specs.Shape.{corners_told, shape_told};
 
@@ -6,7 +6,7 @@ use geometry::Point;
 use layer_session::Session;
 use std::alloc::Global;
 
-/// How many facets a text has, and their least and greatest coordinates in micrometres; zeros if it has none.
+/// How many facets were read, and their least and greatest coordinates in micrometres; zeros if there is none.
 #[repr(C)]
 #[derive(Clone, Copy)]
 pub struct Corners {
@@ -30,7 +30,7 @@ pub(crate) const NO_CORNERS: Corners = Corners {
     high_z: 0,
 };
 
-/// A grid: its counts of voxels, and its corner of least x, y and z in micrometres.
+/// A grid: its counts of voxels, and its corner of least x, y and z in micrometres; on a screen in multiplied ones.
 #[repr(C)]
 #[derive(Clone, Copy)]
 pub struct Cells {
@@ -42,15 +42,15 @@ pub struct Cells {
     pub origin_z: i32,
 }
 
-/// The facets of an open mesh, and its grid.
+/// The facets of an open mesh as they were read, and its grid.
 #[repr(C)]
 #[derive(Clone, Copy)]
 pub struct Shape {
     pub corners: Corners,
     pub cells: Cells,
-    /// A voxel along x and y; on a screen in multiplied units.
+    /// A voxel along x and y, in micrometres; on a screen in multiplied ones.
     pub pitch: u32,
-    /// A voxel along z.
+    /// A voxel along z, in micrometres.
     pub layer: u32,
     /// By what x is multiplied on a screen; else 1.
     pub times_x: u64,

@@ -1,7 +1,7 @@
 -- The chains of a table of edges: how an edge is searched, and how one is added. Then the edges of a list, numbered one after
 -- another.
 use Rattle.std.proofs.Common.{◌≡◌, ℕ, zero, suc, ◌+◌, ◌*◌, ◌<◌, ◌≤◌, Bool, true, false, cond, eqb, List, [], ◌∷◌, ◌++◌, ◌⊎◌, inl, inr, refl, sym, ◌∙◌, ap, subst, length, get_or, set, arith, get_or-set_same, get_or-set_other}
-use Rattle.std.specs.Prelude.{◌≢◌, Result, Ok, Err, IfOk, OnOk}
+use Rattle.std.specs.Prelude.{◌≢◌}
 use Rattle.std.proofs.lemmas.List.{append_assoc, append-nil, get_or_append_left, get_or_push, length-append, length-set, length_push}
 use Rattle.std.proofs.lemmas.Bool.{cases_eq, cases_order, eq-eqb, eqb-true, ne_eqb}
 use Rattle.contour.specs.EdgeTable.{AreChains, AreNumbered, IsNumbered, IsTable, bucket, end_in}
@@ -9,7 +9,7 @@ use Rattle.geometry.specs.declared.limits.TheConstants.{FACET_LIMIT}
 
 -- ---- the end of a chain
 module _ (hash : ℕ → ℕ) (b : ℕ) (edges : List ℕ) where
-  pub end-low : (n : ℕ) → end_in hash edges b n ≤ n
+  end-low : (n : ℕ) → end_in hash edges b n ≤ n
   end-low zero = omega arith
   end-low (suc n) = by_test (eqb (hash (get_or edges n 0)) b) (end-low n)
     where
@@ -17,7 +17,7 @@ module _ (hash : ℕ → ℕ) (b : ℕ) (edges : List ℕ) where
       by_test true low = omega arith
       by_test false low = omega (arith, low)
 
-  pub end-fixed : (n : ℕ) → end_in hash edges b (end_in hash edges b n) ≡ end_in hash edges b n
+  end-fixed : (n : ℕ) → end_in hash edges b (end_in hash edges b n) ≡ end_in hash edges b n
   end-fixed zero = refl
   end-fixed (suc n) = by_test (eqb (hash (get_or edges n 0)) b) refl (end-fixed n)
     where
@@ -27,7 +27,7 @@ module _ (hash : ℕ → ℕ) (b : ℕ) (edges : List ℕ) where
       by_test false h rest = rest
 
   -- after the end no edge is in the bucket
-  pub end-last : (n j : ℕ) → end_in hash edges b n ≤ j → j < n → hash (get_or edges j 0) ≡ b → ⊥
+  end-last : (n j : ℕ) → end_in hash edges b n ≤ j → j < n → hash (get_or edges j 0) ≡ b → ⊥
   end-last zero j low less h = omega (arith, less)
   end-last (suc n) j low less h = by_test (eqb (hash (get_or edges n 0)) b) refl low (end-last n j)
     where
@@ -42,14 +42,14 @@ module _ (hash : ℕ → ℕ) (b : ℕ) (edges : List ℕ) where
           by_place (inr other) = rest up (omega (arith, less, other)) h
 
   -- the edge before the end is in the bucket
-  pub end-own : (n : ℕ) → end_in hash edges b (suc n) ≡ suc n → hash (get_or edges n 0) ≡ b
+  end-own : (n : ℕ) → end_in hash edges b (suc n) ≡ suc n → hash (get_or edges n 0) ≡ b
   end-own n h = by_test (eqb (hash (get_or edges n 0)) b) refl h
     where
       by_test : (t : Bool) → eqb (hash (get_or edges n 0)) b ≡ t → cond t (suc n) (end_in hash edges b n) ≡ suc n → hash (get_or edges n 0) ≡ b
       by_test true e s = eqb-true _ _ e
       by_test false e s = let low = end-low n in absurd (omega (arith, low, s))
 
-  pub end-append : (more : List ℕ) (n : ℕ) → n ≤ length edges → end_in hash (edges ++ more) b n ≡ end_in hash edges b n
+  end-append : (more : List ℕ) (n : ℕ) → n ≤ length edges → end_in hash (edges ++ more) b n ≡ end_in hash edges b n
   end-append more zero l = refl
   end-append more (suc n) l =
       λ i. cond (eqb (hash (get_or_append_left edges more 0 n (omega (arith, l)) i)) b) (suc n) (end-append more n (omega (arith, l)) i)
@@ -106,7 +106,7 @@ module _ (hash : ℕ → ℕ) (ends edges before : List ℕ) (p : AreChains hash
       ∙ (λ i. cond (eqb (hash (get_or_push edges edge 0 (length edges) refl i)) b) (suc (length edges))
       (end-append hash b edges (edge ∷ []) (length edges) (omega arith) i))
 
-  pub chains-add : AreChains hash (set ends (hash edge) (suc (length edges))) (edges ++ edge ∷ []) (before ++ get_or ends (hash edge) 0 ∷ [])
+  chains-add : AreChains hash (set ends (hash edge) (suc (length edges))) (edges ++ edge ∷ []) (before ++ get_or ends (hash edge) 0 ∷ [])
   chains-add = record {
     size = (let e = length_push before (get_or ends (hash edge) 0) in let s = p.size in omega (arith, e, s, count));
     last = λ b l. last_of b (let n = length-set ends (hash edge) (suc (length edges)) in omega (arith, l, n)) (cases_eq b (hash edge));
@@ -176,26 +176,6 @@ table-begins ends edges before some few zeros e f =
     }))
 
 -- ---- edges numbered one after another
-pub numbered-found : (edges : List ℕ) (edge k : ℕ) → k < length edges → get_or edges k 0 ≡ edge → IsNumbered edges edge edges k
-numbered-found edges edge k within is = record {
-  more = [];
-  grown = sym (append-nil edges);
-  few = omega arith;
-  within = within;
-  is = is;
-}
-
-pub numbered-added : {E : Type 0} (old new : List ℕ) (edge : ℕ) (r : Result ℕ E) → OnOk r (new ≡ old ++ edge ∷ []) → IfOk r (λ k. k ≡ length old)
-    → IfOk r (IsNumbered old edge new)
-numbered-added old new edge (Ok k) h n = record {
-  more = edge ∷ [];
-  grown = h;
-  few = omega arith;
-  within = (let e = ap length h ∙ length_push old edge in omega (arith, e, n));
-  is = ap (λ xs. get_or xs k 0) h ∙ get_or_push old edge 0 k (sym n);
-}
-numbered-added old new edge (Err e) h n = tt
-
 pub numbered-begins : (edges list : List ℕ) → AreNumbered edges list edges list 0
 numbered-begins edges list = record {
   more = [];

@@ -1,14 +1,7 @@
 -- The least number of micrometres that is a whole number of either side of a pixel.
-use Rattle.std.proofs.Common.{◌≡◌, ℕ, zero, suc, ◌+◌, ◌*◌, ◌<◌, ◌≤◌, ◌⊎◌, inl, inr, subst, arith}
+use Rattle.std.proofs.Common.{◌≡◌, ℕ, zero, suc, ◌+◌, ◌<◌, ◌≤◌, ◌⊎◌, inl, inr, subst, arith}
 use Rattle.part_on_screen.specs.Pitch.{IsMultiple}
 use Rattle.part_on_screen.specs.declared.pixel_side.PixelSide.{PixelSide}
-
--- some micrometres are at least one side, if they are a whole number of sides
-pub some-times : (times n length d : ℕ) → times * n ≡ length * d → 1 ≤ length → 1 ≤ d → 1 ≤ times
-some-times (suc t) n length d e h k = omega arith
-some-times zero n zero d e h k = absurd (omega (arith, h))
-some-times zero n (suc l) zero e h k = absurd (omega (arith, k))
-some-times zero n (suc l) (suc d) e h k = absurd (omega (arith, e))
 
 -- so many micrometres are not a whole number of both sides
 abbrev pub IsNoPitch : PixelSide → PixelSide → ℕ → Type 0
