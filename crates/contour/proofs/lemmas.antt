@@ -2,7 +2,7 @@ pub mod Parts
 pub mod Counts
 pub mod Swept
 pub mod Pushes
-pub mod Endings
+pub mod Blocks
 pub mod Sweeps
 pub mod Links
 pub mod LoopRays

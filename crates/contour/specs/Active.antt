@@ -5,8 +5,8 @@
 use Rattle.std.specs.Prelude.{ℕ, Bool, ◌&&◌, List, [], ◌∷◌, ◌++◌, map, filter, take, drop, count_by, ℤ, pos, ◌*ℤ◌, nat_lt}
 use Rattle.std.specs.List.{enumerate_from, list_any, prefix_len}
 use Rattle.geometry.specs.TieRule.{is_below, is_above}
-use Rattle.geometry.specs.Facet.{Facet, corners, greatest_z, least_z}
-use Rattle.mesh_weld.specs.Solid.{facet_at}
+use Rattle.geometry.specs.Facet.{Facet, corners, least_z}
+use Rattle.mesh_weld.specs.Solid.{facet_at, top_of}
 use Rattle.plane_segments.specs.Segment.{height}
 
 -- some corner counts as below the height z
@@ -22,10 +22,6 @@ active_facets facets z = map (λ e. e.0) (filter (λ e. is_between z e.1) (enume
 
 abbrev pub reached_count : List Facet → ℤ → ℕ
 reached_count facets z = count_by (is_reached z) facets
-
--- the greatest height of the corners of the facet with a number, in micrometres
-abbrev pub top_of : List Facet → ℕ → ℤ
-top_of facets n = greatest_z (facet_at facets n)
 
 -- the lowest corner of the facet with a number counts as below the height z, and its highest corner is above z
 abbrev pub starts_by : List Facet → ℤ → ℕ → Bool

@@ -3,7 +3,8 @@ use Rattle.std.specs.Prelude.{◌≡◌, ℕ, List, map, ℤ}
 use Rattle.exact_int.specs.Bounds.{IsAtMost}
 use Rattle.geometry.specs.Facet.{Facet}
 use Rattle.geometry.specs.declared.limits.TheConstants.{CENTRE_LIMIT}
-use Rattle.contour.specs.Active.{active_facets, reached_count, top_of}
+use Rattle.mesh_weld.specs.Solid.{top_of}
+use Rattle.contour.specs.Active.{active_facets, reached_count}
 
 -- the mesh, and the plane's height in half-micrometres
 pub record Sweep : Type 0 where

@@ -1,16 +1,14 @@
 //! The active list of a sweep: the facets that its plane cuts, in ascending order of their numbers, each with the height of its
 //! top. A facet starts at its lowest corner and ends at its top, its highest corner. At each step the facets that have started
 //! and not ended are merged into those that stay.
-ghost use Rattle.std.specs.Prelude.{◌≡◌, ◌<◌, ◌≤◌, ◌++◌, ◌∷◌, ◌*ℤ◌, [], All, IfOk, List, OnOk, drop, false, filter, if◌then◌else◌, length, map, nat_lt, pos, take, true, ℕ};
-ghost use Rattle.std.specs.List.{AllPairs, prefix_len};
-ghost use Rattle.exact_int.specs.Bounds.{IsAtMost};
+ghost use Rattle.std.specs.Prelude.{◌≡◌, ◌<◌, ◌≤◌, ◌++◌, ◌∷◌, ◌*ℤ◌, ◌≤ℤ◌, [], All, IfOk, List, OnOk, drop, filter, if◌then◌else◌, length, map, nat_lt, pos, take, ℕ};
+ghost use Rattle.std.specs.List.{prefix_len};
 ghost use Rattle.geometry.specs.TieRule as TieRule;
-ghost use Rattle.mesh_weld.specs.Solid.{is_lower};
-ghost use Rattle.contour.specs.Active.{ends_above, merge, starts_by, top_of};
-ghost use Rattle.geometry.specs.declared.limits.TheConstants.{CENTRE_LIMIT};
+ghost use Rattle.mesh_weld.specs.Solid.{AreBlockTops, top_of};
+ghost use Rattle.contour.specs.Active.{ends_above, merge, starts_by};
 
 use geometry::is_below;
-use mesh_weld::Solid;
+use mesh_weld::{Solid, split_block};
 use std::alloc::{AllocError, Allocator};
 
 /// The numbers of the facets that a plane cuts, each with the height of its top in micrometres.
@@ -157,89 +155,97 @@ pub(crate) struct Arrivals<A: Allocator> {
 }
 
 impl<A: Allocator + Copy + Send + Sync> Arrivals<A> {
-    /// Finds what the plane reaches up to the height `z2`, in half-micrometres. Some facets start so far below `z2` that all of
-    /// them have ended there. A binary search counts these, without a look at each.
+    /// Finds what the plane reaches up to the height `z2`, in half-micrometres, by the tops of the blocks of the order: it looks
+    /// at no facet of a block whose top is not above `z2`.
     pub(crate) fn find(
+        alloc: A,
+        s: &Solid<A>,
+        order: &[u32],
+        tops: &[i32],
+        z2: i64,
+    ) -> Result<Arrivals<A>, AllocError>
+        requires numbers { All (λ n. n < length s.now.facets) order.now }
+        requires tops { AreBlockTops (top_of s.now.facets) order.now tops.now }
+        ensures count { IfOk result (λ a. a.count ≡ prefix_len (starts_by s.now.facets z2) order.now) }
+        ensures active { IfOk result (λ a. a.active.items ≡ filter (ends_above s.now.facets z2) (take a.count order.now)) }
+    {
+        let mut active = Vec::new(alloc);
+        let mut count = 0;
+        let mut rest = order;
+        for top in tops {
+            let (block, behind) = split_block(rest);
+            let started = pass_block(&mut active, s, block, *top, z2)?;
+            count += started;
+            if started < block.len() {
+                return Ok(Arrivals { count, active });
+            }
+            rest = behind;
+        }
+        Ok(Arrivals { count, active })
+    }
+
+    /// Looks at facets up to the first that starts above `z2`, in half-micrometres.
+    pub(crate) fn scan(
         alloc: A,
         s: &Solid<A>,
         order: &[u32],
         z2: i64,
     ) -> Result<Arrivals<A>, AllocError>
-        requires numbers { All (λ n. n < length s.now.facets) order.now }
-        requires ascending { AllPairs (λ m n. is_lower s.now.facets m n ≡ true) order.now }
-        requires height { IsAtMost CENTRE_LIMIT z2 }
-        ensures count { IfOk result (λ a. a.count ≡ prefix_len (starts_by s.now.facets z2) order.now) }
-        ensures active { IfOk result (λ a. a.active.items ≡ filter (ends_above s.now.facets z2) (take a.count order.now)) }
-    {
-        let ended = count_ended(s, order, z2);
-        let (_, rest) = order.split_at(ended);
-        let Arrivals { count, active } = Arrivals::scan(alloc, s, rest, z2)?;
-        Ok(Arrivals {
-            count: ended + count,
-            active,
-        })
-    }
-
-    /// Looks at facets up to the first that starts above `z2`, in half-micrometres.
-    fn scan(alloc: A, s: &Solid<A>, order: &[u32], z2: i64) -> Result<Arrivals<A>, AllocError>
         requires { All (λ n. n < length s.now.facets) order.now }
         ensures count { IfOk result (λ a. a.count ≡ prefix_len (starts_by s.now.facets z2) order.now) }
         ensures active { IfOk result (λ a. a.active.items ≡ filter (ends_above s.now.facets z2) (take a.count order.now)) }
     {
         let mut active = Vec::new(alloc);
-        for (i, n) in order.iter().enumerate() {
-            let range = s.height_range(*n);
-            if !starts_by(range.low, z2) {
-                return Ok(Arrivals { count: i, active });
-            }
-            if is_above(range.high, z2) {
-                active.push(*n)?;
-            }
-        }
-        Ok(Arrivals {
-            count: order.len(),
-            active,
-        })
+        let count = pass_each(&mut active, s, order, z2)?;
+        Ok(Arrivals { count, active })
     }
 }
 
-/// The number of facets at the front of a list that have surely ended at the height `z2`, in half-micrometres. The list is in
-/// the order of least heights. These facets start so far below `z2` that even the greatest rise does not bring them above it.
-/// After a small step of the plane there are none, and a look at the first facet shows it.
-fn count_ended<A: Allocator + Copy + Send + Sync>(s: &Solid<A>, order: &[u32], z2: i64) -> usize
-    requires numbers { All (λ n. n < length s.now.facets) order.now }
-    requires ascending { AllPairs (λ m n. is_lower s.now.facets m n ≡ true) order.now }
-    requires height { IsAtMost CENTRE_LIMIT z2 }
-    ensures started { result ≤ prefix_len (starts_by s.now.facets z2) order.now }
-    ensures ended { All (λ n. ends_above s.now.facets z2 n ≡ false) (take result order.now) }
+/// Passes a block of the order as [`pass_each`] does, where no facet of the block reaches above `top`, in micrometres. If `top`
+/// is not above `z2`, all of them have started and ended.
+fn pass_block<A: Allocator + Copy + Send + Sync>(
+    active: &mut Vec<u32, A>,
+    s: &Solid<A>,
+    block: &[u32],
+    top: i32,
+    z2: i64,
+) -> Result<usize, AllocError>
+    requires numbers { All (λ n. n < length s.now.facets) block.now }
+    requires top { All (λ n. top_of s.now.facets n ≤ℤ top) block.now }
+    ensures count { IfOk result (λ count. count ≡ prefix_len (starts_by s.now.facets z2) block.now) }
+    ensures active { IfOk result (λ count. active.new.items
+        ≡ active.old.items ++ filter (ends_above s.now.facets z2) (take count block.now)) }
 {
-    let low = z2 - 2 * i64::from(s.greatest_rise());
-    let Some(first) = order.first() else {
-        return 0;
-    };
-    if !starts_by(s.height_range(*first).low, low) {
-        return 0;
+    if !is_above(top, z2) {
+        return Ok(block.len());
     }
-    count_started(s, order, low)
+    let count = pass_each(active, s, block, z2)?;
+    Ok(count)
 }
 
-/// The number of facets that start by the height `z2`, in half-micrometres. The list is in the order of least heights.
-fn count_started<A: Allocator + Copy + Send + Sync>(s: &Solid<A>, order: &[u32], z2: i64) -> usize
-    requires numbers { All (λ n. n < length s.now.facets) order.now }
-    requires ascending { AllPairs (λ m n. is_lower s.now.facets m n ≡ true) order.now }
-    ensures { result ≡ prefix_len (starts_by s.now.facets z2) order.now }
+/// Passes facets up to the first that starts above `z2`, in half-micrometres, and returns how many these are. Those that end
+/// above `z2` are appended to `active`.
+fn pass_each<A: Allocator + Copy + Send + Sync>(
+    active: &mut Vec<u32, A>,
+    s: &Solid<A>,
+    order: &[u32],
+    z2: i64,
+) -> Result<usize, AllocError>
+    requires { All (λ n. n < length s.now.facets) order.now }
+    ensures count { IfOk result (λ count. count ≡ prefix_len (starts_by s.now.facets z2) order.now) }
+    ensures active { IfOk result (λ count. active.new.items
+        ≡ active.old.items ++ filter (ends_above s.now.facets z2) (take count order.now)) }
 {
-    let mut low = 0;
-    let mut high = order.len();
-    while low < high {
-        let middle = low + (high - low) / 2;
-        if starts_by(s.height_range(order[middle]).low, z2) {
-            low = middle + 1;
-        } else {
-            high = middle;
+    for (i, n) in order.iter().enumerate() {
+        let range = s.height_range(*n);
+        if !starts_by(range.low, z2) {
+            return Ok(i);
+        }
+        if is_above(range.high, z2) {
+            active.push(*n)?;
         }
     }
-    low
+    Ok(order.len())
 }
 
 /// The number of a list's first elements that are below `number`.

@@ -1,5 +1,6 @@
 //! A sweep raises a plane through a mesh. It keeps the list of active facets, as a scanline fill of polygons keeps active
-//! edges. So a step up looks only at facets that were active before it, and at facets whose lowest corner it passes.
+//! edges. So a step up looks only at facets that were active before it, and at facets whose lowest corner it passes. A sweep
+//! starts at any height: of the facets below, it looks only at those in blocks that reach above the height.
 ghost use Rattle.std.specs.Prelude.{◌≡◌, ◌<◌, ◌≤ℤ◌, All, IfOk, OnErr, OnOk, filter_map, length};
 ghost use Rattle.exact_int.specs.Bounds.{IsAtMost};
 ghost use Rattle.plane_segments.specs.Segment.{HasOrderedNodes, numbered_segment, segments};
@@ -43,7 +44,7 @@ impl<'m, A: Allocator + Copy + Send + Sync> Sweep<'m, A> {
         ensures mesh { IfOk result (λ sweep. sweep.facets ≡ s.now.facets) }
         ensures at { IfOk result (λ sweep. sweep.height ≡ z2) }
     {
-        let mut arrivals = Arrivals::find(alloc, s, s.by_height(), z2)?;
+        let mut arrivals = Arrivals::find(alloc, s, s.by_height(), s.block_tops(), z2)?;
         arrivals.active.sort_unstable();
         let active = ActiveFacets::of(alloc, s, arrivals.active.as_slice())?;
         Ok(Sweep {
@@ -66,7 +67,7 @@ impl<'m, A: Allocator + Copy + Send + Sync> Sweep<'m, A> {
         ensures err { OnErr result (self.new ≡ self.old) }
     {
         let (_, rest) = self.solid.by_height().split_at(self.passed);
-        let mut arrivals = Arrivals::find(self.alloc, self.solid, rest, z2)?;
+        let mut arrivals = Arrivals::scan(self.alloc, self.solid, rest, z2)?;
         arrivals.active.sort_unstable();
         let fresh = arrivals.active.as_slice();
         self.spare.advance(self.solid, &self.active, fresh, z2)?;

@@ -1,10 +1,11 @@
 -- A closed mesh as its kept facets and the number of dropped ones; its vertices and their numbers follow from these.
-use Rattle.std.specs.Prelude.{◌≡◌, ℕ, Bool, true, not, ◌&&◌, ◌||◌, List, [], ◌∷◌, length, map, filter, flat_map, count_by, IsPermutation, ℤ, pos, ◌-ℤ◌, ◌≤ℤ◌, ◌≤◌, if◌then◌else◌, slice_index, slice_index_or, nat_lt, int_lt}
+use Rattle.std.specs.Prelude.{◌≡◌, ℕ, Bool, true, not, ◌&&◌, ◌||◌, List, [], ◌∷◌, length, map, filter, flat_map, take, drop, count_by, IsPermutation, ℤ, ◌≤ℤ◌, if◌then◌else◌, slice_index, slice_index_or, nat_lt, int_lt}
 use Rattle.std.specs.Ordering.{int_eq}
 use Rattle.std.specs.List.{All, position_or_len, range_with_len, AllPairs}
 use Rattle.geometry.specs.Point.{Point, origin, same, is_before}
 use Rattle.geometry.specs.Facet.{Facet, corners, facet_with, greatest_z, least_z}
 use Rattle.mesh_weld.specs.declared.height_order.HeightRange.{HeightRange}
+use Rattle.mesh_weld.specs.declared.height_order.TheConstants.{BLOCK_LEN}
 
 -- the facets that are kept, and how many are dropped
 pub record Solid : Type 0 where
@@ -67,15 +68,6 @@ height_range t = record { low = least_z t; high = greatest_z t }
 abbrev pub height_ranges : List Facet → List HeightRange
 height_ranges facets = map height_range facets
 
--- how far a facet reaches, from its lowest corner up to its highest
-abbrev pub rise : Facet → ℤ
-rise t = greatest_z t -ℤ least_z t
-
--- the least number that is not below any facet's rise
-pub record IsGreatestRise (facets : List Facet) (n : ℕ) : Type 0 where
-  pub within : All (λ t. rise t ≤ℤ pos n) facets
-  pub least : (m : ℕ) → All (λ t. rise t ≤ℤ pos m) facets → n ≤ m
-
 abbrev pub facet_at : List Facet → ℕ → Facet
 facet_at facets n = slice_index_or facets n (facet_with origin origin origin)
 
@@ -89,3 +81,17 @@ is_lower facets m n =
 pub record IsByHeight (facets : List Facet) (numbers : List ℕ) : Type 0 where
   pub all : IsPermutation (range_with_len 0 (length facets)) numbers
   pub ordered : AllPairs (λ m n. is_lower facets m n ≡ true) numbers
+
+-- the height of the highest corner of the facet with a number
+abbrev pub top_of : List Facet → ℕ → ℤ
+top_of facets n = greatest_z (facet_at facets n)
+
+-- the greatest of the heights of some numbers: none is above it, and nothing lower is so
+pub record IsTop (height : ℕ → ℤ) (numbers : List ℕ) (top : ℤ) : Type 0 where
+  pub within : All (λ n. height n ≤ℤ top) numbers
+  pub least : (z : ℤ) → All (λ n. height n ≤ℤ z) numbers → top ≤ℤ z
+
+-- the top of each block of the order: of as many of its numbers as a block has, then of as many of the next, and so on
+abbrev pub AreBlockTops : (ℕ → ℤ) → List ℕ → List ℤ → Type 0
+AreBlockTops height order [] = order ≡ []
+AreBlockTops height order (top ∷ tops) = IsTop height (take BLOCK_LEN order) top × AreBlockTops height (drop BLOCK_LEN order) tops

@@ -1,13 +1,13 @@
-//! Facets in the order in which a sweep from below meets them, the height range of each, and their greatest rise. The sweep
-//! asks for the ranges again and again. By the greatest rise it finds the facets that have not ended yet.
-ghost use Rattle.std.specs.Prelude.{◌≡◌, ◌≤◌, ◌%◌, ◌/◌, ◌+ℤ◌, pos, IfOk, length, map};
-ghost use Rattle.std.specs.List.{range_with_len};
+//! Facets in the order in which a sweep from below meets them, the height range of each, and the top of each block of the
+//! order. The sweep asks for the ranges again and again. By the tops it passes blocks in which all facets have ended.
+ghost use Rattle.std.specs.Prelude.{◌≡◌, ◌<◌, ◌≤◌, ◌%◌, ◌/◌, ◌+ℤ◌, pos, IfOk, drop, length, map, take};
+ghost use Rattle.std.specs.List.{All, range_with_len};
 ghost use Rattle.std.specs.List.Sorted.{IsPermutation, IsNonDecreasing};
-ghost use Rattle.mesh_weld.specs.HeightOrder.{AreHeightKeys, AreNumbersSorted};
+ghost use Rattle.mesh_weld.specs.HeightOrder.{AreHeightKeys, AreNumbersSorted, high_in};
 ghost use Rattle.geometry.specs.Facet.{greatest_z, least_z};
-ghost use Rattle.mesh_weld.specs.Solid.{IsByHeight, IsGreatestRise, facets_by, height_range, height_ranges, rise};
+ghost use Rattle.mesh_weld.specs.Solid.{AreBlockTops, IsByHeight, IsTop, facets_by, height_range, height_ranges, top_of};
 ghost use Rattle.mesh_weld.specs.Welder.{AreBelow};
-ghost use Rattle.mesh_weld.specs.declared.height_order.TheConstants.{HEIGHT_OFFSET};
+ghost use Rattle.mesh_weld.specs.declared.height_order.TheConstants.{BLOCK_LEN, HEIGHT_OFFSET};
 ghost use Rattle.mesh_weld.specs.declared.packing.TheConstants.{HALF_WORD};
 ghost use Rattle.geometry.specs.declared.limits.TheConstants.{FACET_LIMIT};
 
@@ -25,12 +25,12 @@ pub struct HeightRange {
 }
 
 /// The numbers of facets by ascending least height, and by number if least heights are equal; the facets' height ranges, by
-/// number; and their greatest rise.
+/// number; and the tops of the order's blocks, in micrometres.
 #[derive(Drop)]
 pub(crate) struct HeightOrder<A: Allocator> {
     pub(crate) order: Vec<u32, A>,
     pub(crate) ranges: Vec<HeightRange, A>,
-    pub(crate) greatest_rise: u32,
+    pub(crate) tops: Vec<i32, A>,
 }
 
 /// The order by height of the facets whose corners have the numbers among the points.
@@ -43,18 +43,15 @@ pub(crate) fn order_by_height<A: Allocator + Copy>(
     requires few { length numbers.now ≤ FACET_LIMIT }
     ensures order { IfOk result (λ heights. IsByHeight (facets_by points.now numbers.now) heights.order.items) }
     ensures ranges { IfOk result (λ heights. heights.ranges.items ≡ height_ranges (facets_by points.now numbers.now)) }
-    ensures rise { IfOk result (λ heights. IsGreatestRise (facets_by points.now numbers.now) heights.greatest_rise) }
+    ensures tops { IfOk result (λ heights. AreBlockTops (top_of (facets_by points.now numbers.now)) heights.order.items heights.tops.items) }
 {
-    let Heights {
-        keys,
-        ranges,
-        greatest_rise,
-    } = list_heights(alloc, points, numbers)?;
+    let Heights { keys, ranges } = list_heights(alloc, points, numbers)?;
     let order = order_of(alloc, keys)?;
+    let tops = block_tops(alloc, ranges.as_slice(), order.as_slice())?;
     Ok(HeightOrder {
         order,
         ranges,
-        greatest_rise,
+        tops,
     })
 }
 
@@ -64,16 +61,15 @@ pub(crate) type HeightKey = u64;
 /// Added to a height so that it is no less than 0.
 const HEIGHT_OFFSET: i64 = 1 << 31;
 
-/// The keys of facets and their height ranges, both in the facets' order, and their greatest rise.
+/// The keys of facets and their height ranges, both in the facets' order.
 #[derive(Drop)]
 struct Heights<A: Allocator> {
     keys: Vec<HeightKey, A>,
     ranges: Vec<HeightRange, A>,
-    greatest_rise: u32,
 }
 
-/// The keys of the facets whose corners have the numbers among the points, their height ranges, and their greatest rise. It
-/// looks at each facet once.
+/// The keys of the facets whose corners have the numbers among the points, and their height ranges. It looks at each facet
+/// once.
 fn list_heights<A: Allocator + Copy>(
     alloc: A,
     points: &[Point],
@@ -84,23 +80,16 @@ fn list_heights<A: Allocator + Copy>(
     ensures numbers { IfOk result (λ heights. map (λ key. key % HALF_WORD) heights.keys.items ≡ range_with_len 0 (length numbers.now)) }
     ensures heights { IfOk result (λ heights. AreHeightKeys (facets_by points.now numbers.now) heights.keys.items) }
     ensures ranges { IfOk result (λ heights. heights.ranges.items ≡ height_ranges (facets_by points.now numbers.now)) }
-    ensures rise { IfOk result (λ heights. IsGreatestRise (facets_by points.now numbers.now) heights.greatest_rise) }
 {
     let mut keys = Vec::with_capacity(alloc, numbers.len())?;
     let mut ranges = Vec::with_capacity(alloc, numbers.len())?;
-    let mut greatest_rise = 0;
     for own in numbers {
         let facet = facet_by(points, own);
         let number = keys.len() as u32;
-        greatest_rise = rise(&facet).max(greatest_rise);
         keys.push(height_key(&facet, number))?;
         ranges.push(height_range(&facet))?;
     }
-    Ok(Heights {
-        keys,
-        ranges,
-        greatest_rise,
-    })
+    Ok(Heights { keys, ranges })
 }
 
 /// A key that ascends with a facet's least height, and then with its number.
@@ -138,11 +127,57 @@ fn height_range(facet: &Facet) -> HeightRange
     }
 }
 
-/// How far a facet reaches, from its lowest corner up to its highest, in micrometres.
-fn rise(facet: &Facet) -> u32
-    ensures { pos result ≡ rise facet.now }
+/// The number of facets in a block of the order by height. The last block may have fewer.
+pub const BLOCK_LEN: usize = 64;
+
+/// The first block of an order, and what comes after it.
+pub fn split_block(order: &[u32]) -> (&[u32], &[u32])
+    ensures block { result.0.now ≡ take BLOCK_LEN order.now }
+    ensures behind { result.1.now ≡ drop BLOCK_LEN order.now }
 {
-    highest(facet).abs_diff(lowest(facet))
+    order.split_at(BLOCK_LEN.min(order.len()))
+}
+
+/// The tops of the blocks of an order, in micrometres, by the height ranges of all facets.
+fn block_tops<A: Allocator + Copy>(
+    alloc: A,
+    ranges: &[HeightRange],
+    order: &[u32],
+) -> Result<Vec<i32, A>, AllocError>
+    requires { All (λ n. n < length ranges.now) order.now }
+    ensures { IfOk result (λ tops. AreBlockTops (high_in ranges.now) order.now tops.items) }
+{
+    let mut tops = Vec::with_capacity(alloc, order.len() / BLOCK_LEN + 1)?;
+    let mut rest = order;
+    while rest.len() > 0 {
+        let (block, behind) = split_block(rest);
+        tops.push(block_top(ranges, block))?;
+        rest = behind;
+    }
+    Ok(tops)
+}
+
+/// The greatest height of a corner of the facets with these numbers, in micrometres. There is one of them at least.
+fn block_top(ranges: &[HeightRange], block: &[u32]) -> i32
+    requires some { 0 < length block.now }
+    requires numbers { All (λ n. n < length ranges.now) block.now }
+    ensures { IsTop (high_in ranges.now) block.now result }
+{
+    let first = range_at(ranges, block[0]);
+    let mut top = first.high;
+    for number in block {
+        let range = range_at(ranges, *number);
+        top = top.max(range.high);
+    }
+    top
+}
+
+/// The height range of the facet with this number.
+fn range_at(ranges: &[HeightRange], number: u32) -> HeightRange
+    requires { number < length ranges.now }
+    ensures { result.high ≡ high_in ranges.now number }
+{
+    ranges[number as usize]
 }
 
 /// The numbers of the facets that have the keys, the least key first. Comparisons sort the keys if a counting sort does not

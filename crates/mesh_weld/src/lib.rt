@@ -7,10 +7,10 @@
 //! ```
 //!
 //! A [`Welder`] takes facets as they come, drops the degenerate ones (two equal corners) and makes a [`Solid`] of the others. A
-//! solid has its vertices, the numbers of corners and edges of each facet, the [`HeightRange`] of each, and the order of the
-//! facets by height. If the half-edges of a mesh do not balance, the welder returns [`WeldFault::Open`] with the least pair of
-//! points between which they do not. A list of facets is welded at once by [`weld`]. The functions [`lowest`] and [`highest`]
-//! return the least and the greatest height of a facet's corners.
+//! solid has its vertices, the numbers of corners and edges of each facet, the [`HeightRange`] of each, the order of the facets
+//! by height, and the top of each block of this order ([`split_block`]). If the half-edges of a mesh do not balance, the welder
+//! returns [`WeldFault::Open`] with the least pair of points between which they do not. A list of facets is welded at once by
+//! [`weld`]. The functions [`lowest`] and [`highest`] return the least and the greatest height of a facet's corners.
 //!
 //! The functions [`probe`] and [`step`] count the signed crossings of a solid by rays. The law [`hold_mesh_laws`] states what
 //! holds of every closed mesh: for example, its signed crossings by a whole line sum to 0. The law [`closed_or_open`] states
@@ -37,7 +37,7 @@ mod weld_fault;
 mod welder;
 mod welding;
 
-pub use height_order::{HeightRange, highest, lowest};
+pub use height_order::{BLOCK_LEN, HeightRange, highest, lowest, split_block};
 pub use laws::{closed_or_open, hold_mesh_laws};
 pub use probing::{probe, step};
 pub use solid::Solid;

@@ -6,7 +6,7 @@ ghost use Rattle.geometry.specs.Facet.{corners, greatest_z, least_z};
 ghost use Rattle.geometry.specs.Point.{Point, is_before};
 ghost use Rattle.mesh_weld.specs.Balance.{IsBalanced};
 ghost use Rattle.mesh_weld.specs.EdgeNumbers.{AreEdgeNumbers};
-ghost use Rattle.mesh_weld.specs.Solid.{HaveDistinctCorners, IsByHeight, IsGreatestRise, facet_at, triples, vertices};
+ghost use Rattle.mesh_weld.specs.Solid.{AreBlockTops, HaveDistinctCorners, IsByHeight, facet_at, top_of, triples, vertices};
 ghost use Rattle.geometry.specs.declared.limits.TheConstants.{FACET_LIMIT};
 
 use crate::facets::facet_by;
@@ -114,12 +114,12 @@ impl<A: Allocator> Solid<A> {
         self.numbering.heights.order.as_slice()
     }
 
-    /// The greatest rise of a kept facet, in micrometres: how far it reaches from its lowest corner up to its highest. It is 0
-    /// if no facet is kept.
-    pub fn greatest_rise(&self) -> u32
-        ensures { IsGreatestRise self.now.facets result }
+    /// The tops of the blocks of the order by height, in micrometres: the greatest height of a corner of each `BLOCK_LEN`
+    /// facets that follow one another there.
+    pub fn block_tops(&self) -> &[i32]
+        ensures { (order : List ℕ) → IsByHeight self.now.facets order → AreBlockTops (top_of self.now.facets) order result.now }
     {
-        self.numbering.heights.greatest_rise
+        self.numbering.heights.tops.as_slice()
     }
 
     /// The number of kept facets. Each solid is closed, and none of its facets is degenerate.

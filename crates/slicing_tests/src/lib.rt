@@ -27,4 +27,6 @@ mod pool;
 #[cfg(test)]
 mod spans;
 #[cfg(test)]
+mod tall_facets;
+#[cfg(test)]
 mod worked_layers;

@@ -7,10 +7,10 @@ use Rattle.std.proofs.lemmas.List.Elements.{filter_map-append, filter_more}
 use Rattle.std.proofs.lemmas.List.Sums.{prefix_len-drop_yes, prefix_len-drop_no}
 use Rattle.geometry.specs.TieRule.{is_below, is_above}
 use Rattle.geometry.specs.Facet.{Facet, least_z}
-use Rattle.mesh_weld.specs.Solid.{vertices, facet_at}
+use Rattle.mesh_weld.specs.Solid.{vertices, facet_at, top_of}
 use Rattle.plane_segments.specs.declared.segment.Segment.{Segment}
 use Rattle.plane_segments.specs.Segment.{segment_of, numbered_segment}
-use Rattle.contour.specs.Active.{top_of, starts_by, ends_above, merge}
+use Rattle.contour.specs.Active.{starts_by, ends_above, merge}
 
 pub pushed_tops : (facets : List Facet) (old now new : List ℤ) (xs : List ℕ) (i : ℕ) (top read : ℤ) → i < length xs → now ≡ old ++ map (top_of facets) (take i xs)
     → new ≡ now ++ read ∷ [] → read ≡ top → top ≡ top_of facets (get_or xs i 0) → new ≡ old ++ map (top_of facets) (take (i + 1) xs)
@@ -72,26 +72,31 @@ starts_by-all facets z height xs i same low high before =
     end : (n i p q : ℕ) → n ≤ i → i ≤ n → p ≡ 0 → i + p ≡ q → n ≡ q
     end n i p q a b h k = omega arith
 
-pub ends_above-all : (facets : List Facet) (z height : ℤ) (xs cut : List ℕ) (i : ℕ) → height ≡ z → length xs ≤ i → i ≤ length xs
-    → cut ≡ filter (ends_above facets height) (take i xs) → cut ≡ filter (ends_above facets z) (take (length xs) xs)
-ends_above-all facets z height xs cut i same low high h =
-    h ∙ ap (λ n. filter (ends_above facets height) (take n xs)) (both i (length xs) high low) ∙ ap (λ y. filter (ends_above facets y) (take (length xs) xs)) same
+pub ends_above-all : (facets : List Facet) (z height : ℤ) (xs old cut : List ℕ) (i : ℕ) → height ≡ z → length xs ≤ i → i ≤ length xs
+    → cut ≡ old ++ filter (ends_above facets height) (take i xs) → cut ≡ old ++ filter (ends_above facets z) (take (length xs) xs)
+ends_above-all facets z height xs old cut i same low high h =
+    h ∙ ap (λ n. old ++ filter (ends_above facets height) (take n xs)) (both i (length xs) high low)
+    ∙ ap (λ y. old ++ filter (ends_above facets y) (take (length xs) xs)) same
   where
     both : (i n : ℕ) → i ≤ n → n ≤ i → i ≡ n
     both i n a b = omega arith
 
-pub ends_above-kept : (facets : List Facet) (z : ℤ) (xs cut more new : List ℕ) (i : ℕ) → i < length xs → ends_above facets z (get_or xs i 0) ≡ true
-    → new ≡ more → more ≡ cut ++ get_or xs i 0 ∷ [] → cut ≡ filter (ends_above facets z) (take i xs) → new ≡ filter (ends_above facets z) (take (i + 1) xs)
-ends_above-kept facets z xs cut more new i l e is pushed before =
+pub ends_above-kept : (facets : List Facet) (z : ℤ) (xs old cut more new : List ℕ) (i : ℕ) → i < length xs → ends_above facets z (get_or xs i 0) ≡ true
+    → new ≡ more → more ≡ cut ++ get_or xs i 0 ∷ [] → cut ≡ old ++ filter (ends_above facets z) (take i xs)
+    → new ≡ old ++ filter (ends_above facets z) (take (i + 1) xs)
+ends_above-kept facets z xs old cut more new i l e is pushed before =
     is ∙ pushed ∙ ap (λ ks. ks ++ get_or xs i 0 ∷ []) before
-    ∙ sym (filter_more (ends_above facets z) xs i 0 l ∙ ap (λ b. filter (ends_above facets z) (take i xs) ++ cond b (get_or xs i 0 ∷ []) []) e)
+    ∙ append_assoc old (filter (ends_above facets z) (take i xs)) (get_or xs i 0 ∷ [])
+    ∙ ap (λ ks. old ++ ks)
+    (sym (filter_more (ends_above facets z) xs i 0 l ∙ ap (λ b. filter (ends_above facets z) (take i xs) ++ cond b (get_or xs i 0 ∷ []) []) e))
 
-pub ends_above-left : (facets : List Facet) (z : ℤ) (xs cut new : List ℕ) (i : ℕ) → i < length xs → ends_above facets z (get_or xs i 0) ≡ false
-    → new ≡ cut → cut ≡ filter (ends_above facets z) (take i xs) → new ≡ filter (ends_above facets z) (take (i + 1) xs)
-ends_above-left facets z xs cut new i l e same before =
+pub ends_above-left : (facets : List Facet) (z : ℤ) (xs old cut new : List ℕ) (i : ℕ) → i < length xs → ends_above facets z (get_or xs i 0) ≡ false
+    → new ≡ cut → cut ≡ old ++ filter (ends_above facets z) (take i xs) → new ≡ old ++ filter (ends_above facets z) (take (i + 1) xs)
+ends_above-left facets z xs old cut new i l e same before =
     same ∙ before
-    ∙ sym (filter_more (ends_above facets z) xs i 0 l ∙ ap (λ b. filter (ends_above facets z) (take i xs) ++ cond b (get_or xs i 0 ∷ []) []) e
-    ∙ append-nil (filter (ends_above facets z) (take i xs)))
+    ∙ ap (λ ks. old ++ ks)
+    (sym (filter_more (ends_above facets z) xs i 0 l ∙ ap (λ b. filter (ends_above facets z) (take i xs) ++ cond b (get_or xs i 0 ∷ []) []) e
+    ∙ append-nil (filter (ends_above facets z) (take i xs))))
 
 -- ---- two ascending lists as one
 top_read : (facets : List Facet) (tops : List ℤ) (ns : List ℕ) (i : ℕ) (top : ℤ) → i < length ns
@@ -125,6 +130,12 @@ pub above-read : (facets : List Facet) (n : ℕ) (z height top read : ℤ) (answ
     → answer ≡ is_above (pos 2 *ℤ read) height → answer ≡ b → ends_above facets z n ≡ b
 above-read facets n z height top read answer b e f h said is =
     ap (λ t. is_above (pos 2 *ℤ t) z) (sym h ∙ sym f) ∙ ap (λ y. is_above (pos 2 *ℤ read) y) (sym e) ∙ sym said ∙ is
+
+-- the same of a top alone
+pub top-read : (z height top read : ℤ) (answer b : Bool) → height ≡ z → read ≡ top → answer ≡ is_above (pos 2 *ℤ read) height → answer ≡ b
+    → is_above (pos 2 *ℤ top) z ≡ b
+top-read z height top read answer b e f said is =
+    ap (λ t. is_above (pos 2 *ℤ t) z) (sym f) ∙ ap (λ y. is_above (pos 2 *ℤ read) y) (sym e) ∙ sym said ∙ is
 
 pub merge-pushed : (old ms later new left : List ℕ) (n : ℕ) (b : Bool) → b ≡ true
     → new ≡ old ++ (take (prefix_len (λ m. nat_lt m n) ms) ms ++ n ∷ []) → left ≡ drop (prefix_len (λ m. nat_lt m n) ms) ms

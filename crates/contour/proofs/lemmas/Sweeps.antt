@@ -15,11 +15,11 @@ use Rattle.exact_int.specs.Bounds.{IsAtMost}
 use Rattle.geometry.specs.Point.{origin}
 use Rattle.geometry.specs.TieRule.{is_below, is_above}
 use Rattle.geometry.specs.Facet.{Facet, facet_with, twice}
-use Rattle.mesh_weld.specs.Solid.{facet_at, vertices, IsByHeight}
+use Rattle.mesh_weld.specs.Solid.{facet_at, vertices, IsByHeight, top_of}
 use Rattle.exact_cut.specs.Cut.{IsBetween}
 use Rattle.plane_segments.specs.Segment.{height, segment_of, segments, numbered_segment}
 use Rattle.plane_segments.proofs.lemmas.Cutting.{segment-none}
-use Rattle.contour.specs.Active.{is_between, active_facets, reached_count, top_of, starts_by, ends_above, merge}
+use Rattle.contour.specs.Active.{is_between, active_facets, reached_count, starts_by, ends_above, merge}
 use Rattle.contour.specs.Sweep.{IsSwept}
 use Rattle.contour.proofs.lemmas.Swept.{front_passed, first_active, next_passed, next_active, active-is, Gives, Gives-get_or, starts_by-is, ends_above-is}
 use Rattle.geometry.specs.declared.limits.TheConstants.{CENTRE_LIMIT}

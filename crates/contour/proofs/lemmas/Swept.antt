@@ -11,10 +11,10 @@ use Rattle.std.proofs.lemmas.Int.{ints}
 use Rattle.geometry.specs.Point.{origin}
 use Rattle.geometry.specs.TieRule.{is_below, is_above}
 use Rattle.geometry.specs.Facet.{Facet, facet_with, corners, greatest_z, least_z}
-use Rattle.mesh_weld.specs.Solid.{facet_at, IsByHeight, is_lower}
+use Rattle.mesh_weld.specs.Solid.{facet_at, IsByHeight, is_lower, top_of}
 use Rattle.mesh_weld.proofs.lemmas.Edges.{count_by-cons}
 use Rattle.plane_segments.specs.Segment.{height}
-use Rattle.contour.specs.Active.{is_between, active_facets, reached_count, top_of, starts_by, ends_above, merge}
+use Rattle.contour.specs.Active.{is_between, active_facets, reached_count, starts_by, ends_above, merge}
 use Rattle.contour.proofs.lemmas.Counts.{times, times-filter, times-merge, count-permutation, Ascends, Ascends-filter, Ascends-range, Ascends-merge, Ascends-from_sorted, same_from_counts}
 
 -- ---- a test that fails for good

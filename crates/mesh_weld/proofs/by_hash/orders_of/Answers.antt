@@ -16,5 +16,5 @@ returns g c =
       few = found (λ own. length points ≤ CORNER_LIMIT) c.in_ok-points.ensures.limit;
       order_is = c.in_ok-heights.ensures.order;
       ranges_are = c.in_ok-heights.ensures.ranges;
-      rise_is = c.in_ok-heights.ensures.rise;
+      tops_are = c.in_ok-heights.ensures.tops;
     }

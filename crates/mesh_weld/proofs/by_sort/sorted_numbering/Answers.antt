@@ -3,7 +3,7 @@ use Rattle.std.proofs.lemmas.List.{length-map}
 use Rattle.std.specs.List.{flat_map}
 use Rattle.geometry.specs.Facet.{corners}
 use Rattle.mesh_weld.specs.Numbering.{threes}
-use Rattle.mesh_weld.specs.Solid.{IsByHeight, IsGreatestRise, facets_by, height_ranges, vertices, number_of, triples}
+use Rattle.mesh_weld.specs.Solid.{AreBlockTops, IsByHeight, facets_by, height_ranges, vertices, number_of, top_of, triples}
 use Rattle.mesh_weld.proofs.lemmas.EdgeNumbering.{triples-by_number, edge_numbers}
 use Rattle.mesh_weld.proofs.lemmas.FacetNumbers.{numbered_again, numbered_below}
 use Rattle.mesh_weld.proofs.lemmas.Welds.{few_vertices}
@@ -48,5 +48,5 @@ returns-clause-numbering g c =
       edges_are = edge_numbers kept few c.in_ok-edges.edges.numbers.items c.in_ok-edges.edges.count c.in_ok-edges.ensures.numbering;
       order_is = subst (λ l. IsByHeight l c.in_ok-heights.heights.order.items) own c.in_ok-heights.ensures.order;
       ranges_are = ◌∙◌ {b = height_ranges named} c.in_ok-heights.ensures.ranges (ap height_ranges own);
-      rise_is = subst (λ l. IsGreatestRise l c.in_ok-heights.heights.greatest_rise) own c.in_ok-heights.ensures.rise;
+      tops_are = subst (λ l. AreBlockTops (top_of l) c.in_ok-heights.heights.order.items c.in_ok-heights.heights.tops.items) own c.in_ok-heights.ensures.tops;
     }

@@ -1,10 +1,10 @@
-use Rattle.std.proofs.Common.{◌^◌, ◌≡◌, ◌%◌, [], length, map, take, arith, ap, sym, subst, ◌∙◌}
+use Rattle.std.proofs.Common.{◌^◌, ◌≡◌, ◌%◌, [], length, map, take, arith, ap, sym, ◌∙◌}
 use Rattle.std.specs.List.{range_with_len}
 use Rattle.std.proofs.lemmas.List.{get_or-map, length-map, take_all}
 use Rattle.geometry.specs.Point.{origin}
 use Rattle.geometry.specs.Facet.{facet_with}
-use Rattle.mesh_weld.specs.Solid.{IsGreatestRise, facet_at, facet_by, facets_by, height_ranges}
-use Rattle.mesh_weld.proofs.lemmas.HeightOrder.{keys_more, ranges_more, rise_more}
+use Rattle.mesh_weld.specs.Solid.{facet_at, facet_by, facets_by, height_ranges}
+use Rattle.mesh_weld.proofs.lemmas.HeightOrder.{keys_more, ranges_more}
 use Rattle.mesh_weld.proofs.height_order.list_heights.Given.{Over}
 use Rattle.mesh_weld.proofs.height_order.list_heights.Goals.{After-loop-own}
 use Rattle.mesh_weld.proofs.height_order.list_heights.Goals as goal
@@ -14,7 +14,6 @@ loop-own-init g c = record {
   numbers = ap (map (λ key. key % 2 ^ 32)) c.in_ok-keys.ensures.items;
   heights = λ k d l. absurd (omega (arith, l, ap length c.in_ok-keys.ensures.items));
   ranges = c.in_ok-ranges.ensures.items;
-  rise = record { within = λ k d l. absurd (omega (arith, l)); least = λ m h. omega arith };
   count = c.in_ok-keys.ensures.len;
 }
 
@@ -39,8 +38,6 @@ loop-own-preserved g c =
       heights = more.1;
       ranges = ranges_more (facets_by points numbers) at.own-index at.ranges.items c.push-in-loop-own.new.self.items c.height_range.result c.facet_by-facet.result (facet_with origin origin origin)
           (omega (arith, c.loop-own-test.true, length-map numbers (facet_by points))) at.invariant.ranges c.height_range.ensures is c.in_ok-push-2.ensures.items;
-      rise = rise_more (facets_by points numbers) at.own-index at.greatest_rise c.rise.result c.max-greatest_rise.result c.facet_by-facet.result (facet_with origin origin origin)
-          (omega (arith, c.loop-own-test.true, length-map numbers (facet_by points))) at.invariant.rise c.rise.ensures is c.max-greatest_rise.ensures;
       count = omega (arith, c.in_ok-push.ensures.len, at.invariant.count);
     })
 
@@ -61,6 +58,3 @@ returns-clause-heights g c = c.loop-own.invariant.heights
 
 pub returns-clause-ranges : goal.returns-clause-ranges
 returns-clause-ranges g c = c.loop-own.invariant.ranges ∙ ap height_ranges (all g c)
-
-pub returns-clause-rise : goal.returns-clause-rise
-returns-clause-rise g c = subst (λ l. IsGreatestRise l c.loop-own.greatest_rise) (all g c) c.loop-own.invariant.rise

@@ -26,7 +26,7 @@ returns g c =
       edges_are = edges_by_ids (facets_by points ids) ids own c.args.found.edges.numbers.items c.args.found.edges.count c.requires.edges.numbers_are;
       order_is = orders.order_is;
       ranges_are = orders.ranges_are;
-      rise_is = orders.rise_is;
+      tops_are = orders.tops_are;
     }
 
 pub renumber-requires : goal.renumber-requires

@@ -1,7 +1,8 @@
 use Rattle.std.proofs.Common.{◌∙◌, ◌+◌, ◌++◌, ap, sym, map, drop, arith, to_z, of_z, w32, w64}
 use Rattle.std.specs.Prelude.{filter, FitsSigned}
 use Rattle.std.proofs.lemmas.Int.{to_z-of_z}
-use Rattle.contour.specs.Active.{ends_above, top_of, merge}
+use Rattle.mesh_weld.specs.Solid.{top_of}
+use Rattle.contour.specs.Active.{ends_above, merge}
 use Rattle.contour.proofs.lemmas.Pushes.{top_next, tops_joined, merge-done, merge-next}
 use Rattle.contour.proofs.active.ActiveFacets.advance.Goals as goal
 

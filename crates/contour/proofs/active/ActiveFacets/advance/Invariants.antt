@@ -1,6 +1,7 @@
 use Rattle.std.proofs.Common.{◌≡◌, ◌<◌, ◌++◌, drop, length, map}
 use Rattle.std.specs.Prelude.{All, filter}
-use Rattle.contour.specs.Active.{ends_above, top_of, merge}
+use Rattle.mesh_weld.specs.Solid.{top_of}
+use Rattle.contour.specs.Active.{ends_above, merge}
 use Rattle.contour.proofs.active.ActiveFacets.advance.Given as goal
 
 abbrev pub invariant-loop-i : goal.invariant-loop-i

@@ -1,5 +1,5 @@
 use Rattle.std.proofs.Common.{◌≡◌, ◌++◌, take, map}
-use Rattle.contour.specs.Active.{top_of}
+use Rattle.mesh_weld.specs.Solid.{top_of}
 use Rattle.contour.proofs.active.ActiveFacets.push_all.Given as goal
 
 abbrev pub invariant-loop-n : goal.invariant-loop-n

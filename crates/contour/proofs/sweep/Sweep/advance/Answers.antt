@@ -1,10 +1,8 @@
 use Rattle.std.proofs.Common.{◌≡◌, ◌∙◌, ap, length, map, sym, subst, true, arith, to_z, of_z, w64}
 use Rattle.std.specs.Prelude.{◌≤ℤ◌}
 use Rattle.std.proofs.lemmas.Int.{to_z-of_z}
-use Rattle.mesh_weld.specs.Solid.{is_lower}
-use Rattle.contour.specs.Active.{top_of}
+use Rattle.mesh_weld.specs.Solid.{top_of}
 use Rattle.contour.specs.Sweep.{Sweep}
-use Rattle.contour.proofs.lemmas.Endings.{ordered_rest}
 use Rattle.contour.proofs.lemmas.Sweeps.{rest_in, found_in, on-error, passed_within, step-fits, swept_next}
 use Rattle.contour.proofs.sweep.Sweep.advance.Goals as goal
 
@@ -14,15 +12,10 @@ split_at-requires g c =
     let is = c.self.invariant.passed_is in
     omega arith
 
-pub find-requires-clause-numbers : goal.find-requires-clause-numbers
-find-requires-clause-numbers g c κs within =
+pub scan-requires-after_bounds : goal.scan-requires-after_bounds
+scan-requires-after_bounds g c κs within =
     rw c.split_at.ensures.back
     (rest_in c.self.inside.solid.now.facets c.self.inside.passed c.by_height.result.now c.by_height.ensures)
-
-pub find-requires-clause-ascending : goal.find-requires-clause-ascending
-find-requires-clause-ascending g c κs within =
-    rw c.split_at.ensures.back
-    (ordered_rest (λ m n. is_lower c.self.inside.solid.now.facets m n ≡ true) c.self.inside.passed c.by_height.result.now c.by_height.ensures.ordered)
 
 pub advance-requires-clause-fresh : goal.advance-requires-clause-fresh
 advance-requires-clause-fresh g c κs within =

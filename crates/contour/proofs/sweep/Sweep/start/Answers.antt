@@ -6,8 +6,8 @@ use Rattle.contour.proofs.sweep.Sweep.start.Goals as goal
 pub find-requires-clause-numbers : goal.find-requires-clause-numbers
 find-requires-clause-numbers g c κs within = order_in c.args.s.now.facets c.by_height.result.now c.by_height.ensures
 
-pub find-requires-clause-ascending : goal.find-requires-clause-ascending
-find-requires-clause-ascending g c κs within = c.by_height.ensures.ordered
+pub find-requires-clause-tops : goal.find-requires-clause-tops
+find-requires-clause-tops g c κs within = c.block_tops.ensures c.by_height.result.now c.by_height.ensures
 
 pub of-requires-after_bounds : goal.of-requires-after_bounds
 of-requires-after_bounds g c κs within =

@@ -3,8 +3,8 @@ use Rattle.std.specs.List.{prefix_len}
 use Rattle.std.proofs.lemmas.Int.{to_z-of_z}
 use Rattle.contour.specs.Active.{ends_above, starts_by}
 use Rattle.contour.proofs.lemmas.Pushes.{above-read, below-read, starts_by-all, starts_by-ends, starts_by-on, ends_above-all, ends_above-kept, ends_above-left}
-use Rattle.contour.proofs.active.Arrivals.scan.Goals as goal
-use Rattle.contour.proofs.active.Arrivals.scan.Goals.{then-is_above+in_ok-push, else-is_above}
+use Rattle.contour.proofs.active.pass_each.Goals as goal
+use Rattle.contour.proofs.active.pass_each.Goals.{then-is_above+in_ok-push, else-is_above}
 
 pub returns-then-not-starts_by-clause-count : goal.returns-then-not-starts_by-clause-count
 returns-then-not-starts_by-clause-count g c =
@@ -30,10 +30,10 @@ loop-i-preserved g c =
           c.loop-i.invariant.reached;
       active = elim c.if-is_above.branch [
         | then-is_above+in_ok-push w ↦
-            ends_above-kept c.args.s.now.facets height c.args.order.now c.loop-i.active.items w.push.new.self.items c.if-is_above.active.items c.loop-i.i c.loop-i-test.true
+            ends_above-kept c.args.s.now.facets height c.args.order.now c.args.active.now.items c.loop-i.active.items w.push.new.self.items c.if-is_above.active.items c.loop-i.i c.loop-i-test.true
             (is true w.if-is_above.true) (ap (λ v. v.items) w.active-is) w.in_ok-push.ensures.items c.loop-i.invariant.active
         | else-is_above w ↦
-            ends_above-left c.args.s.now.facets height c.args.order.now c.loop-i.active.items c.if-is_above.active.items c.loop-i.i c.loop-i-test.true
+            ends_above-left c.args.s.now.facets height c.args.order.now c.args.active.now.items c.loop-i.active.items c.if-is_above.active.items c.loop-i.i c.loop-i-test.true
             (is false w.if-is_above.false) (ap (λ v. v.items) w.active-is) c.loop-i.invariant.active
       ];
     }
@@ -45,5 +45,5 @@ returns-clause-count g c =
 
 pub returns-clause-active : goal.returns-clause-active
 returns-clause-active g c =
-    ends_above-all c.args.s.now.facets c.args.z2 (to_z w64 (of_z w64 c.args.z2)) c.args.order.now c.loop-i.active.items c.loop-i.i
+    ends_above-all c.args.s.now.facets c.args.z2 (to_z w64 (of_z w64 c.args.z2)) c.args.order.now c.args.active.now.items c.loop-i.active.items c.loop-i.i
     (to_z-of_z w64 c.args.z2 c.ranges.z2) c.loop-i-test.false c.loop-i.auto.i-end c.loop-i.invariant.active
