@@ -2,7 +2,7 @@ use Rattle.std.proofs.Common.{◌≡◌, ℕ, List, ◌+◌, ◌++◌, ◌<◌, 
 use Rattle.std.specs.Prelude.{All, filter, ℤ, pos, ◌≤ℤ◌}
 use Rattle.std.specs.List.{prefix_len}
 use Rattle.std.proofs.lemmas.Int.{to_z-of_z}
-use Rattle.mesh_weld.specs.Solid.{AreBlockTops, top_of}
+use Rattle.mesh_weld.specs.Solid.{top_of}
 use Rattle.mesh_weld.specs.declared.height_order.TheConstants.{BLOCK_LEN}
 use Rattle.contour.specs.Active.{ends_above, starts_by}
 use Rattle.contour.proofs.lemmas.Blocks.{all_in_part, count_fits, found_more, next_top, no_block, passed_all, passed_last, passed_more, passed_none}
