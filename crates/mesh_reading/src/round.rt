@@ -5,6 +5,7 @@ ghost use Rattle.devices.specs.Devices.{Fails};
 ghost use Rattle.mesh_reading.specs.Loading.{IsFilled};
 ghost use Rattle.mesh_reading.specs.Round.{no_round};
 ghost use Rattle.mesh_reading.specs.declared.read_fault.ReadFault.TheVariants.{Read};
+ghost use Rattle.mesh_reading.specs.declared.round.TheConstants.{FIRST_LEN};
 
 use crate::read_fault::ReadFault;
 use crate::window::{LEAST_READ, WINDOW_LEN, fill};
@@ -13,6 +14,9 @@ use geometry::Facet;
 use std::alloc::{AllocError, Allocator};
 use std::marker::Model;
 use std::mem::swap;
+
+/// The number of bytes that the first round waits for. It is short, so that parsing begins soon.
+const FIRST_LEN: usize = 1 << 18;
 
 /// The bytes of a round, in room that is kept from one filling to the next. The room grows by a window if too little of
 /// it is left for a read. So a short text touches no more memory than it needs. What follows the first `len` bytes is
@@ -39,12 +43,13 @@ impl<A: Allocator> Model for Round<A> {
 }
 
 impl<A: Allocator> Round<A> {
-    /// A round without bytes, which is to be filled with `wanted` bytes and up to a window more. It is not the last one.
-    fn new(alloc: A, wanted: usize) -> Result<Round<A>, AllocError>
+    /// A round without bytes, which is to be filled with `wanted` bytes and up to a window more. It is not the last one. Its room
+    /// does not move until it has more than `limit` bytes.
+    fn new(alloc: A, wanted: usize, limit: usize) -> Result<Round<A>, AllocError>
         ensures { IfOk result (λ round. round ≡ no_round wanted) }
     {
         Ok(Round {
-            room: Vec::with_capacity(alloc, wanted.saturating_add(WINDOW_LEN))?,
+            room: Vec::with_capacity(alloc, limit.saturating_add(WINDOW_LEN))?,
             len: 0,
             wanted,
             is_last: false,
@@ -97,31 +102,35 @@ pub(crate) struct Rounds<A: Allocator> {
     pub(crate) round: Round<A>,
     /// The round after it, which is to be filled.
     pub(crate) next: Round<A>,
+    /// The greatest number of bytes that a round waits for.
+    limit: usize,
 }
 
 impl<A: Allocator + Copy> Rounds<A> {
-    /// Two rounds without bytes, of which each waits for `wanted` bytes, and no facets.
-    pub(crate) fn new(alloc: A, wanted: usize) -> Result<Rounds<A>, AllocError>
+    /// Two rounds without bytes, of which each waits for `FIRST_LEN` bytes, and no facets. Later ones wait for up to `limit` bytes.
+    pub(crate) fn new(alloc: A, limit: usize) -> Result<Rounds<A>, AllocError>
         ensures facets { IfOk result (λ rounds. rounds.facets.items ≡ []) }
-        ensures round { IfOk result (λ rounds. rounds.round ≡ no_round wanted) }
-        ensures next { IfOk result (λ rounds. rounds.next ≡ no_round wanted) }
+        ensures round { IfOk result (λ rounds. rounds.round ≡ no_round FIRST_LEN) }
+        ensures next { IfOk result (λ rounds. rounds.next ≡ no_round FIRST_LEN) }
     {
         Ok(Rounds {
             facets: Vec::new(alloc),
-            round: Round::new(alloc, wanted)?,
-            next: Round::new(alloc, wanted)?,
+            round: Round::new(alloc, FIRST_LEN, limit)?,
+            next: Round::new(alloc, FIRST_LEN, limit)?,
+            limit,
         })
     }
 
     /// Makes the next round the one that is to be read. The other is to be filled after it, so it is the last too if this one is.
+    /// It waits for twice as many bytes, up to the limit.
     pub(crate) fn turn(&mut self)
         ensures round { self.new.round ≡ self.old.next }
-        ensures wanted { self.new.next.wanted ≡ self.old.round.wanted }
         ensures last { self.new.next.is_last ≡ self.old.next.is_last }
         ensures facets { self.new.facets.items ≡ self.old.facets.items }
     {
         swap(&mut self.round, &mut self.next);
         self.next.is_last = self.round.is_last;
+        self.next.wanted = self.round.wanted.saturating_mul(2).min(self.limit);
     }
 }
 
