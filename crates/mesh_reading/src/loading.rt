@@ -24,7 +24,7 @@ use stl_text::TextReader;
 /// The number of bytes for each worker, if several read at the same time.
 const WORKER_LEN: usize = 1 << 20;
 
-/// The greatest number of bytes that a round waits for. It may have up to a window more. Two rounds and the program itself
+/// The greatest number of bytes that a round waits for. A round may have up to a window more. Two rounds and the program itself
 /// take less than 20 MB.
 const ROUND_LIMIT: usize = 7 << 20;
 
@@ -176,7 +176,7 @@ fn weld_last<A: Allocator + Copy + Send + Sync>(
     Ok(welder)
 }
 
-/// The number of bytes that a round of these workers waits for.
+/// The number of bytes that the longest rounds of these workers wait for.
 fn round_len(workers: u32) -> usize {
     WORKER_LEN.saturating_mul(workers as usize).min(ROUND_LIMIT)
 }

@@ -202,10 +202,10 @@ fn each_allocation_fails_in_parts(rt: HostRuntime) {
     }
 }
 
-/// The length of a round for each of its workers, without the window that it may have more.
+/// The length of a long round for each of its workers, without the window that it may have more. Shorter rounds come first.
 const WORKER_LEN: usize = 1 << 20;
 
-/// The same for a cube of more than a round of two workers, and of three.
+/// The same for a cube of more than a long round of two workers, and of three.
 const NAME_OF_TWO_WORKERS: u32 = 68_500;
 
 const NAME_OF_THREE_WORKERS: u32 = 100_400;
@@ -214,31 +214,31 @@ const NAME_OF_THREE_WORKERS: u32 = 100_400;
 /// open edge.
 const NO_CELLS: Usual = (Err(RunFault::Grid(GridFault::NoCells)), b"");
 
-/// One thread welds and fills. The second round has two parts, and the last facets.
+/// One thread welds and fills.
 #[test]
-fn each_allocation_of_two_rounds_fails_by_two_workers(rt: HostRuntime) {
+fn each_allocation_of_rounds_fails_by_two_workers(rt: HostRuntime) {
     let line = "--pitch 1 --layer 1 --workers 2 --grid 0,1,1,0,0,0";
     let cube = (NAME_OF_TWO_WORKERS, 2 * WORKER_LEN + 2 * PART_LEN);
     assert!(rt; fails_over_cube(&rt, line, cube, &NO_CELLS, 10));
 }
 
-/// One thread welds, and another one fills. The second round is as above.
+/// One thread welds, and another one fills.
 #[test]
-fn each_allocation_of_two_rounds_fails_by_three_workers(rt: HostRuntime) {
+fn each_allocation_of_rounds_fails_by_three_workers(rt: HostRuntime) {
     let line = "--pitch 1 --layer 1 --workers 3 --grid 0,1,1,0,0,0";
     let cube = (NAME_OF_THREE_WORKERS, 3 * WORKER_LEN + 2 * PART_LEN);
     assert!(rt; fails_over_cube(&rt, line, cube, &NO_CELLS, 10));
 }
 
-/// The same for a cube of more than two rounds of four workers.
-const NAME_OF_THREE_ROUNDS: u32 = 264_200;
+/// The same for a cube of more than two long rounds of four workers.
+const NAME_OF_FOUR_WORKERS: u32 = 264_200;
 
-/// While the second round is read, one thread welds the facets of the first, another one fills the third, and two look for
-/// runs of facets alone. The third round has two parts, and the last facets.
+/// While a round is read, one thread welds the facets of the one before, another one fills the one after it, and two look for
+/// runs of facets alone.
 #[test]
-fn each_allocation_of_three_rounds_fails_by_four_workers(rt: HostRuntime) {
+fn each_allocation_of_rounds_fails_by_four_workers(rt: HostRuntime) {
     let line = "--pitch 1 --layer 1 --workers 4";
-    let cube = (NAME_OF_THREE_ROUNDS, 2 * (4 * WORKER_LEN) + 2 * PART_LEN);
+    let cube = (NAME_OF_FOUR_WORKERS, 2 * (4 * WORKER_LEN) + 2 * PART_LEN);
     assert!(rt; fails_over_cube(&rt, line, cube, &SLICED, 40));
 }
 
