@@ -34,6 +34,19 @@ class Heap(ctypes.Structure):
                                                      "uordblks", "fordblks", "keepcost")]
 
 
+def modules(library):
+    """numpy, and the Python module with this library."""
+    os.environ["STLSLICE_LIBRARY"] = os.path.abspath(library)
+    sys.path.append(os.path.join(os.path.dirname(os.path.abspath(__file__)), "..", "python"))
+    try:
+        import numpy
+    except ImportError:
+        sys.exit("bench: numpy is missing (Debian: python3-numpy)")
+    import stlslice
+
+    return numpy, stlslice
+
+
 def in_use():
     """Bytes that malloc has given out."""
     call = ctypes.CDLL(None).mallinfo2
@@ -75,7 +88,7 @@ def binary_of(corners):
     return bytes(80) + struct.pack("<I", len(corners) // 3) + b"".join(struct.pack("<12fH", 0, 0, 0, *it, 0) for it in facets)
 
 
-def openings(stlslice, text):
+def openings(stlslice, text, pitch=SIZES["pitch"], layer=SIZES["layer"]):
     """What opens a mesh from a text, from the arrays of the same facets, and from their binary file. The module's copies of the
     arrays are made here, so what opens takes the library's memory alone."""
     known = {}
@@ -83,11 +96,11 @@ def openings(stlslice, text):
     points = [[float(it) for it in row.split()] for row in known]
     corners, indices = stlslice._points(stlslice.micrometres(points)), stlslice._triangles(found)
     binary = binary_of([points[k] for k in found])
-    options = stlslice._options(SIZES["pitch"], SIZES["layer"], "evenodd", None, "mm", None, 0)
-    yield "a text", lambda: stlslice.open(text, **SIZES)
+    options = stlslice._options(pitch, layer, "evenodd", None, "mm", None, 0)
+    yield "a text", lambda: stlslice.open(text, pitch, layer)
     yield "arrays", lambda: stlslice.Mesh("open_mesh", (*corners[1:], *indices[1:]), options)
-    yield "a binary file", lambda: stlslice.open(binary, **SIZES)
-    yield "a binary file on a screen", lambda: stlslice.open(binary, canvas=(4000, 3200), pitch=(19, 24), layer=100, turn=1)
+    yield "a binary file", lambda: stlslice.open(binary, pitch, layer)
+    yield "a binary file on a screen", lambda: stlslice.open(binary, canvas=(4000, 3200), pitch=(19, 24), layer=layer, turn=1)
 
 
 def memory(opens):
@@ -105,14 +118,7 @@ def memory(opens):
 def main():
     if len(sys.argv) not in (3, 4) or not all(word.isdecimal() for word in sys.argv[3:]):
         sys.exit("use: bench/library.py PROGRAM LIBRARY [FACETS]")
-    program, os.environ["STLSLICE_LIBRARY"] = map(os.path.abspath, sys.argv[1:3])
-    sys.path.append(os.path.join(os.path.dirname(os.path.abspath(__file__)), "..", "python"))
-    try:
-        import numpy
-    except ImportError:
-        sys.exit("bench: numpy is missing (Debian: python3-numpy)")
-    import stlslice
-
+    program, (numpy, stlslice) = os.path.abspath(sys.argv[1]), modules(sys.argv[2])
     with tempfile.TemporaryDirectory() as folder:
         path = os.path.join(folder, "ring.stl")
         facets = ring_of(int(sys.argv[3]) if len(sys.argv) > 3 else 20_000, path)

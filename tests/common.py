@@ -20,7 +20,7 @@ ROOT = os.path.dirname(os.path.dirname(os.path.abspath(__file__)))
 PROGRAM = os.path.abspath(os.environ.get("STLSLICE", os.path.join(ROOT, "build", "stlslice")))
 
 # modules that tests import
-sys.path += [os.path.join(ROOT, it) for it in ("bench", "library/web", "python")]
+sys.path += [os.path.join(ROOT, it) for it in ("bench", "library/web", "python", "tools")]
 
 # The Debian packages of tools, where they have another name.
 PACKAGES = {

@@ -1,14 +1,16 @@
 """bench/table.py writes a page with machine, date and a row for each case; beside another slicer it shows ratios too, and
-ends with a fault if that one writes other bytes. The rows of docs/benchmarks.md are the script's."""
+ends with a fault if that one writes other bytes. The rows of docs/benchmarks.md are the script's. bench/large.py has a figure
+of each part in each row."""
 
 import datetime
 import re
 
-from common import PROGRAM, Case, same, text_of
+from common import PROGRAM, ROOT, Case, library, python_with, same, skip, text_of
 
 NAMED = re.findall(r'(?m)^    Case\("(\w+)", "([^"]+)"', text_of("bench/table.py"))
 TABLE = "bench/table.py"
 FEW = ["--runs=1", "--case=sphere20k"]
+LARGE = "import large; large.RUNS = 1; large.main()"
 
 
 def rows(page):
@@ -47,6 +49,17 @@ class Benchmarks(Case):
         other = self.room.put("other", f"#!/bin/sh\n'{PROGRAM}' \"$@\"\nprintf x\n", 0o755)
         ran = self.room.run(TABLE, PROGRAM, other, *FEW)
         assert ran.status == 1 and "different bytes" in ran.fault and not ran.out, ran
+
+    def test_a_table_of_large_parts_has_their_figures(self):
+        env = self.room.with_env(PYTHONPATH=f"{ROOT}/bench")
+        ran = self.room.run(python_with("numpy"), "-c", LARGE, library(), "1000", env=env)
+        if "numpy is missing" in ran.fault:
+            skip(ran.fault)
+        head, _, facets, *figures = [it.strip("| ").split(" | ") for it in ran.out.splitlines() if it.startswith("|")]
+        same((ran.status, ran.fault, head), (0, "", ["Ball", "Ring", "Ball and needle"]), "status, faults, and the parts")
+        ball, ring, both = (int(it.split(", ")[0].replace(",", "")) for it in facets[1:])
+        assert ring > 500 and both == ball + 4 > 500, f"facets: {facets}"
+        assert len(figures) > 10 and all(len(row) == 4 and re.match(r"\d", it) for row in figures for it in row[1:]), figures
 
     def test_a_table_of_pngs_has_their_sizes(self):
         other = f"--other=sh -c 'shift; exec {PROGRAM} --png \"$@\" <examples/supported.stl' x"

@@ -10,6 +10,7 @@ import sys
 
 from common import ROOT, Together, needs, same, text_of
 import browser
+import reference
 
 # Contracts lead to the definitions that they cite, however these are imported: by name, by another name, by a module, as a
 # case or as a constant.
@@ -140,6 +141,12 @@ class Reference(Together):
             blocks = [re.findall(r"(?s)<pre>(.*?)</pre>", it)[-1] for it in shown]
             lines = [plain(line).strip() for block in blocks for line in block.splitlines()]
             same(sum(1 for line in lines if line and not line.startswith(("--", "//"))), told, f"lines of {page}")
+
+    def test_what_a_page_leaves_out_stands_on_one_that_it_leads_to(self):
+        for it in reference.BELIEVED:
+            led_to = re.findall(r'href="(believe-\w+\.html)"', self.pages[f"{it.page}.html"][0])
+            there = {mark.split(".")[-1] for page in led_to for mark in self.pages[page][1]}
+            same(set(it.without) - there, set(), f"what {it.page} leaves out, and {led_to} have not")
 
     def test_an_example_is_of_the_definition_above_it(self):
         for crate, mark, begins in EXAMPLES:

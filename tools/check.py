@@ -33,7 +33,7 @@ def is_seen_from_above(name, base):
     if name.endswith(".rt"):
         texts = (re.sub(r"(?m)^\s*//.*\n", "", it) for it in (text_of(name), git("show", f"{base}:{name}")))
         return len({BODY.sub(r"\1\2{}", it) for it in texts}) > 1
-    module = name.removeprefix("crates/").removesuffix(".antt").replace("/", ".")
+    module = re.sub(r"\Acrates/|\.antt\Z", "", name).replace("/", ".")
     return "/specs/" in name or bool(git("grep", "-lF", f"Rattle.{module}", "--", "crates", f":!crates/{module.split('.')[0]}"))
 
 

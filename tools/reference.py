@@ -65,7 +65,8 @@ BELIEVED = [
              "has its default. The box goes before the probe, the probe before the report, the report before PNGs. If a text is "
              "wrong or something is missing, the fault is the first in the documented order. If the words ask for help or the "
              "version, that is told as a refusal."),
-    Believed("believe-opening", "opening a part", "layer_session", ["Session::open"],
+    Believed("believe-opening", "opening a part", "layer_session",
+             ["Session::open", "Session.IsSessionOf", "Session.IsOpenFault"],
              ["Reads", "IsFaultOf", "ReadsBinary", "IsFaultOfBinary", "part_on_screen", "IsGridOfPart", "IsNoGridOfPart"], "",
              "The bytes of a file are read as a binary STL if they are as many as its count of facets takes, and as a text if not. "
              "The facets are placed in a grid or on a printer's screen, and have to be closed there. If something is wrong, there "
