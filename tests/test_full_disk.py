@@ -4,6 +4,7 @@ files (`ulimit -f`), which ends it by its signal, as it ends any other. If the s
 counts the bytes that went out."""
 
 import os
+import re
 import resource
 import shutil
 import signal
@@ -70,9 +71,9 @@ class FullDisk(Case):
         self.holds_as_before()
         self.leave(100_000)
         ran = self.slabs(out, "-j", "4", env=env)
-        slab = f"stlslice-slabs: a slab ended with status 7 and no line: is the temporary folder {self.disk} full, or memory short?"
-        lines = {1: ["stlslice-slabs: GNU parallel or ssh failed"], 7: [slab, "stlslice: write failed after 0 bytes"]}
-        assert ran.out == "" and ran.fault.splitlines()[-1] in lines[ran.status], ran
+        slab = rf"stlslice-slabs: slab \d of 4 ended with status 7 and no line: is the temporary folder {self.disk} full, or .*"
+        lines = {1: "stlslice-slabs: GNU parallel or ssh failed", 7: f"{slab}|stlslice: write failed after 0 bytes"}
+        assert ran.out == "" and re.fullmatch(lines[ran.status], ran.fault.splitlines()[-1]), ran
         assert ran.status == 7 or ran.fault.startswith("parallel: Error: "), ran
         self.holds_as_before()
         assert not os.path.exists(out), "something is left"

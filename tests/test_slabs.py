@@ -328,6 +328,15 @@ class Parallel(Slabs):
         assert ran.status == 1 and ran.fault.startswith("parallel: Error: "), ran
         assert ran.fault.endswith("\nstlslice-slabs: GNU parallel or ssh failed\n"), ran
 
+    def test_a_failure_without_a_line_is_told(self):
+        """Of a program that says nothing when it is asked for the box, and of one that says nothing of a slab."""
+        words, here = [*self.by_one("case $* in *,500) exit 9;; esac"), "out"], self.room.path
+        line = "%s: slab 6 of 9 ended with status 9 and no line: is the temporary folder {} full, or memory short?"
+        self.room.refused(9, line.format(here), *words, cwd=here)
+        tool = self.room.put("slicer", "#!/bin/sh\nexit 9\n", 0o755)
+        self.room.refused(9, f"%s: {tool} --box ended with status 9 and no line", *words, cwd=here)
+        same(self.room.files(), ["slicer"], "files")
+
     def test_a_parallel_that_does_not_end_is_killed(self):
         """A stand-in, which ignores what would end it."""
         room, env = self.room, {"PATH": f"{self.room.tools()}:/usr/bin:/bin"}

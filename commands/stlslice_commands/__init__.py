@@ -1,10 +1,5 @@
 """What the commands `stlslice-sl1`, `stlslice-pngs`, `stlslice-page` and `stlslice-slabs` are made of. It needs Python's standard
-library (3.8 or later); all but the last need the module `stlslice` too.
-
-`words` reads the options, with the table of `printers`; `formats` knows what a file is; `parts` opens the part, with `meshes` for OBJ
-and 3MF and `shells` for many facets; `slicing` puts it on the screen; `images` makes and joins PNGs; `sl1`, `pngs` and `page` write
-what was asked for; `slabs` runs the program by GNU parallel; `faults` has how the commands end, and what they say.
-"""
+library (3.8 or later); all but the last need the module `stlslice` too. docs/ARCHITECTURE.md says what each module does."""
 
 import os
 

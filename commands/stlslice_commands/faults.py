@@ -2,14 +2,14 @@
 
 import contextlib
 import errno
-import functools
 import os
 import re
+import shutil
 import signal
 import sys
 import time
+from functools import partial
 
-SIGNALS = [getattr(signal, it) for it in ("SIGHUP", "SIGINT", "SIGTERM") if hasattr(signal, it)]  # Windows has no SIGHUP
 # Control characters, and what Python has for bytes of a name that are no UTF-8.
 UNSHOWN = re.compile("[\0-\x1f\x7f-\x9f\udc80-\udcff]")
 BLOCK = 1 << 20
@@ -54,9 +54,9 @@ def look_at_output(output, part):
         return
     if output.endswith("/") or os.path.islink(output) or os.path.exists(output) and not os.path.isfile(output):
         raise Refused(f"{output} is no plain file")
-    part = 0 if part == "-" else part  # standard input, as it is open
-    if os.path.exists(output) and os.path.exists(part) and os.path.samefile(output, part):
-        raise Refused(f"{output} is the part itself")
+    with contextlib.suppress(OSError):  # of what isn't there
+        if os.path.samefile(output, 0 if part == "-" else part):
+            raise Refused(f"{output} is the part itself")
 
 
 @contextlib.contextmanager
@@ -74,19 +74,15 @@ def undone(undo):
 def aside(output):
     """A path that an output has until it is whole, and no other run takes. What is there when the block ends is removed."""
     path = f"{output}.{os.urandom(4).hex()}.part"
-    with undone(functools.partial(remove, path)):
+    with undone(partial(remove, path)):
         yield path
 
 
 def remove(path):
-    """Removes a file, or a folder of files, if it is there."""
+    """Removes a file, or a folder with what it has, if it is there."""
     with contextlib.suppress(OSError):
-        if not os.path.isdir(path):
-            os.remove(path)
-            return
-        for name in os.listdir(path):
-            os.remove(os.path.join(path, name))
-        os.rmdir(path)
+        os.remove(path)
+    shutil.rmtree(path, ignore_errors=True)
 
 
 @contextlib.contextmanager
@@ -126,8 +122,7 @@ def finish(given, plain, file, layers, size, volume, **more):
 def pour(file):
     """Writes the bytes of a file to standard output."""
     file.seek(0)
-    for block in iter(functools.partial(file.read, BLOCK), b""):
-        sys.stdout.buffer.write(block)
+    shutil.copyfileobj(file, sys.stdout.buffer, BLOCK)
     sys.stdout.flush()
 
 
@@ -145,17 +140,15 @@ class Progress:
     """One line on standard error that is drawn anew. It is shown on a terminal alone."""
 
     CLEAR = "\r\x1b[K"
-    drawn = False
-    moment = 0.0
+    moment = 0.0  # when it was drawn, or 0 if it isn't there
 
     @classmethod
     def show(cls, text, is_new=False):
         """Draws the line: that of a new phase at once, since it may stand for long, others ten times a second at most."""
         now = time.monotonic()
-        if now - cls.moment < 0.1 and not is_new or not sys.stderr.isatty():
-            return
-        tell(f"{cls.CLEAR}{text}")
-        cls.drawn, cls.moment = True, now
+        if (is_new or now - cls.moment >= 0.1) and sys.stderr.isatty():
+            tell(f"{cls.CLEAR}{text}")
+            cls.moment = now
 
     @classmethod
     def through(cls, layers, count):
@@ -169,15 +162,14 @@ class Progress:
 
     @classmethod
     def clear(cls):
-        tell(cls.CLEAR if cls.drawn else "")
-        cls.drawn, cls.moment = False, 0.0
+        tell(cls.CLEAR if cls.moment else "")
+        cls.moment = 0.0
 
 
 def answers(*calls, rank=lambda fault: 0):
-    """What calls return that take long, each made in a thread of its own: Python heeds a signal only between its own steps. Of their
-    faults the one of the least rank is raised."""
+    """What calls return that take long, each made in a thread of its own: Python heeds a signal only between its own steps. Of
+    their faults the one of the least rank is raised."""
     from concurrent.futures import ThreadPoolExecutor  # only here, since each start reads what it imports anew
-
     with ThreadPoolExecutor(len(calls)) as pool:
         made = [pool.submit(call) for call in calls]
     faults = [it.exception() for it in made if it.exception()]
@@ -192,16 +184,17 @@ def stop(number, _):
     listen(signal.SIG_IGN)
     for undo in reversed(UNDONE):
         undo()
-    if Progress.drawn:
+    if Progress.moment:
         with contextlib.suppress(OSError):
             os.write(sys.stderr.fileno(), Progress.CLEAR.encode())
     os._exit(128 + number)
 
 
 def listen(how):
-    for number in SIGNALS:
-        # what nohup ignores stays ignored
-        if signal.getsignal(number) != signal.SIG_IGN:
+    """Has signals answered so, but for those that are ignored, as by nohup."""
+    for name in ("SIGHUP", "SIGINT", "SIGTERM"):
+        number = getattr(signal, name, None)  # Windows has no SIGHUP
+        if number and signal.getsignal(number) != signal.SIG_IGN:
             signal.signal(number, how)
 
 
@@ -231,10 +224,8 @@ def command(main):
         sys.stdout.reconfigure(errors="backslashreplace")
         status = 0
         try:
-            try:
+            with contextlib.suppress(SystemExit):  # of argparse, after --help
                 main()
-            except SystemExit as end:  # of argparse, after --help and wrong words
-                status = end.code
             with named("standard output"):
                 sys.stdout.flush()
         except (Refused, ImportError, MemoryError, OSError) as fault:

@@ -1,5 +1,4 @@
-"""OBJ and 3MF as points in whole micrometres, and triangles of their indices. Each coordinate is exact until it is rounded,
-once."""
+"""OBJ and 3MF as points in whole micrometres, and triangles of their indices. Each coordinate is rounded once, at the end."""
 
 import decimal
 import functools
@@ -41,7 +40,7 @@ NO_BODY = re.compile(rb"ParameterModifier|NegativeVolume|Support(?:Enforcer|Bloc
                      rb"modifier_part|negative_part|support_(?:enforcer|blocker)")
 CONFIGS = ("Metadata/Slic3r_PE_model.config", "Metadata/model_settings.config")
 LARGEST, SMALL, RATIO = 1 << 28, 1 << 24, 100  # bytes of an entry; above SMALL it has at most RATIO times its packed bytes
-DIRECTORY = 1 << 20  # bytes of a zip's list of entries
+ENTRIES = 10_000  # of a zip
 NESTED, DEEPEST = 64, 16  # elements of XML, and components, in each other
 TRANSFORM = 40  # bytes of a number of a transform
 PLACED = 100  # facets that take as long as placing an object
@@ -75,16 +74,6 @@ class Points:
         return self.rounded
 
 
-def read(kind, data, given):
-    """The points and triangles of an OBJ or a 3MF."""
-    if kind == "OBJ":
-        return read_obj(data, given.unit)
-    if given.unit != "mm":
-        raise Refused("a 3MF has a unit of its own: leave out --unit", 2)
-    # of more facets the library takes no mesh, but shells of a larger one
-    return read_3mf(data, 16 * FACETS if getattr(given, "shells", False) else FACETS)
-
-
 def number(word):
     """A number, as it is written."""
     if len(word) > LONGEST or not NUMBER.fullmatch(word):
@@ -98,8 +87,7 @@ def front(word):
 
 
 def read_obj(data, unit):
-    """The points and triangles of an OBJ, its `v` and `f`, whose numbers are of this unit. A polygon that is flat and convex is
-    cut into triangles from its first corner."""
+    """The points and triangles of an OBJ, its `v` and `f`, whose numbers are of this unit."""
     points, triangles, times = Points(), array("I"), OBJ_UNITS[unit]
     for at, (word, *words) in lines_of(io.BytesIO(data)):
         try:
@@ -154,7 +142,7 @@ def index(word, count):
 
 
 def fan(points, corners):
-    """The triangles of a polygon from its first corner."""
+    """The triangles of a polygon that is flat and convex, from its first corner."""
     if len(corners) < 3:
         raise ValueError("a face has fewer than three corners")
     if len(corners) > 3 and not is_fan([tuple(points[3 * at:3 * at + 3]) for at in corners]):
@@ -165,8 +153,7 @@ def fan(points, corners):
 def is_fan(corners):
     """Whether a polygon is flat and convex, but for FLAT micrometres: all corners lie in a plane, each three in a row turn to the
     left, and so do the triangles of the fan. Those of four corners are turns already."""
-    first = corners[0]
-    triangles = [(first, *pair) for pair in zip(corners[1:], corners[2:])]
+    first, triangles = corners[0], [(corners[0], *pair) for pair in zip(corners[1:], corners[2:])]
     turns = list(zip(corners, corners[1:] + corners[:1], corners[2:] + corners[:2]))
     normal = tuple(map(sum, zip(*(normal_of(*it) for it in triangles))))
     slack = FLAT ** 2 * dot(normal, normal)
@@ -199,28 +186,23 @@ def cross(a, b):
 def read_3mf(data, most):
     """The points and triangles of a 3MF's build items, by its core specification 1. At most so many facets are taken."""
     try:
-        refuse_large_directory(data)
+        if not zipfile.is_zipfile(io.BytesIO(data)):
+            raise ValueError("it is cut, or no zip")
+        if data.count(b"PK\1\2") > ENTRIES:  # with these bytes each is listed, and the list is held whole
+            raise ValueError(f"it has more than {ENTRIES:,} entries")
         with zipfile.ZipFile(io.BytesIO(data)) as archive:
             for name in CONFIGS:
                 if name in archive.namelist() and NO_BODY.search(opened(archive, name, SMALL).read()):
                     raise NotTaken("the 3MF has volumes that are none of the part, such as modifiers")
             model = Model(most)
             fed(opened(archive, model_of(archive)), model.start, model.end)
+        points, triangles, unit = Points(), array("I"), Decimal(model.unit)
         with decimal.localcontext(EXACT):
-            return model.placed()
+            model.items.place([[unit * (k == j) for j in range(3)] for k in range(4)], points, triangles)
+            return points.whole(), triangles
     except DAMAGED as fault:
         why = f"{fault.args[0]} is missing" if isinstance(fault, KeyError) else str(fault)
         raise Refused(f"the 3MF can't be read: {why[:200]}", 3)
-
-
-def refuse_large_directory(data):
-    """The list of a zip's entries is held whole, so its size is looked at before: in the zip's last record, or one of zip64."""
-    at = data.rfind(b"PK\5\6", max(0, len(data) - 65_557))
-    if at < 0 or len(data) - at < 22:
-        raise zipfile.BadZipFile("it is cut, or no zip")
-    size = data[at - 36:at - 28] if data[at - 20:at - 16] == b"PK\6\7" else data[at + 12:at + 16]
-    if int.from_bytes(size, "little") > DIRECTORY:
-        raise ValueError(f"its list of entries has more than {DIRECTORY:,} bytes")
 
 
 def model_of(archive):
@@ -275,10 +257,10 @@ def fed(stream, start, end=lambda name: None):
 
 
 class Model:
-    """The objects of a 3MF's model and what is to be built of them."""
+    """The objects of a 3MF's model and what is to be built of them, of at most so many facets."""
 
     def __init__(self, most):
-        self.most, self.unit, self.objects, self.object, self.items = most, None, {}, None, Object("", "model", most)
+        self.most, self.unit, self.objects, self.object, self.items = most, None, {}, None, Object("", "model")
 
     def start(self, name, words):
         kind = name[len(CORE):] if name.startswith(CORE) else None
@@ -304,7 +286,7 @@ class Model:
     def take_object(self, words):
         if self.object or words["id"] in self.objects:
             raise ValueError(f"object {words['id'][:20]} stands twice, or in another")
-        self.object = self.objects[words["id"]] = Object(words["id"], words.get("type", "model"), self.most)
+        self.object = self.objects[words["id"]] = Object(words["id"][:20], words.get("type", "model"))
 
     def take_vertex(self, words):
         places = [words[axis].encode().split() for axis in "xyz"]
@@ -321,43 +303,35 @@ class Model:
         self.object.cost += 1
 
     def take_component(self, words):
-        self.object.take(self.known(words), words.get("transform", IDENTITY))
+        self.hold(self.object, words)
 
     def take_item(self, words):
         if words.get("printable", "1") != "0":
-            self.items.take(self.known(words), words.get("transform", IDENTITY))
+            self.hold(self.items, words)
 
-    def known(self, words):
-        """The object that is meant. It stands before what refers to it, so that none holds itself."""
+    def hold(self, holder, words):
+        """Puts an object into another, or into what is built. It stands before what refers to it, so that none holds itself."""
         found = self.objects.get(words["objectid"])
         if not found or found is self.object:
             raise ValueError(f"there is no object {words['objectid'][:20]} before what refers to it")
         if found.type not in ("model", "solidsupport", "support"):
             raise NotTaken(f"the 3MF builds an object of the type {found.type[:20]}")
-        return found
-
-    def placed(self):
-        points, triangles, unit = Points(), array("I"), Decimal(self.unit)
-        self.items.place([[unit * (k == j) for j in range(3)] for k in range(4)], points, triangles)
-        return points.whole(), triangles
+        holder.components.append((found, matrix_of(words.get("transform", IDENTITY))))
+        holder.cost += PLACED + found.cost
+        holder.depth = max(holder.depth, found.depth + 1)
+        if holder.cost > self.most:
+            raise ValueError(f"it has more than {self.most:,} facets, or too many objects")
+        if holder.depth > DEEPEST:
+            raise ValueError("its components are too deep in each other")
 
 
 class Object:
     """A mesh, of points as texts, and other objects with their transforms. `cost` counts triangles, and PLACED for each object in
     it, each as often as it is placed."""
 
-    def __init__(self, id, type, most):
-        self.id, self.type, self.most, self.cost, self.depth = id[:20], type, most, 0, 1
+    def __init__(self, id, type):
+        self.id, self.type, self.cost, self.depth = id, type, 0, 1
         self.lines, self.points, self.triangles, self.components = bytearray(), 0, array("I"), []
-
-    def take(self, other, transform):
-        self.components.append((other, matrix_of(transform)))
-        self.cost += PLACED + other.cost
-        self.depth = max(self.depth, other.depth + 1)
-        if self.cost > self.most:
-            raise ValueError(f"it has more than {self.most:,} facets, or too many objects")
-        if self.depth > DEEPEST:
-            raise ValueError("its components are too deep in each other")
 
     def place(self, matrix, points, triangles):
         """Adds the points in millimetres and the triangles. A mirror image is turned inside out again."""

@@ -1,7 +1,5 @@
-"""`stlslice-page`: a part as one page of HTML that shows its layers, for any browser.
-
-The page has the images that stlslice writes, a slider and the areas over the height, and asks no network.
-"""
+"""`stlslice-page`: a part as one page of HTML that shows its layers, for any browser. It has the images that stlslice writes, a
+slider and the areas over the height, and asks no network."""
 
 import base64
 import html
@@ -17,19 +15,26 @@ from .images import DATA, png_of
 PAGE = os.path.join(os.path.dirname(os.path.abspath(__file__)), "page.html")
 
 
-def words_given():
+@command
+def run():
     made = words.shared("Slices a part into one page of HTML that shows its layers, for any browser.", "the page to write, as page.html")
     add = made.add_argument
     add("--pitch", type=words.micrometres, default=50, metavar="N", help="width and depth of a pixel in micrometres (%(default)s)")
     add("--canvas", type=words.canvas, metavar="COLUMNSxROWS",
         help="pixels of a printer's screen, with the part in its middle (without it: the grid that fits the part)")
     add("--title", metavar="TEXT", help="the page's heading (the file's name)")
-    return made.parse_args()
+    given = made.parse_args()
+    look_at_output(given.output, given.part)
+    with whole_file(given.output) as file:
+        layers = Layers(given)
+        size = file.write(page_of(given, layers).encode())
+        line = f"{layers.count} layers, {layers.volume:.3f} ml, {-(-size // 1000)} kB"
+        finish(given, line, file, layers.count, layers.size, layers.volume, bytes=size)
 
 
 class Layers:
     """The layers of a part on a canvas: the images of its box there, each kept once, and for each layer the number of its image
-    and how many of its pixels are filled."""
+    and how many of its pixels are filled; and their volume in millilitres."""
 
     def __init__(self, given):
         import stlslice  # only here, so that what is wrong is told at once
@@ -37,7 +42,7 @@ class Layers:
         part = Part(given)
         how = {"pitch": given.pitch, "layer": given.layer, "rule": given.rule}
         try:
-            self.mesh, = part.open(canvas=given.canvas, **how) if given.canvas else part.open(**how)
+            self.mesh, = part.open(canvas=given.canvas, **how)
         except stlslice.FitFault:
             sides = [count * given.pitch for count in given.canvas]
             raise Refused(f"the part doesn't fit: it is {in_mm(size_of(part.box()))} mm, the canvas {in_mm(sides)} mm")
@@ -46,6 +51,7 @@ class Layers:
         self.areas, = answers(self.mesh.areas)
         if not any(self.areas):
             part.refuse_unlit(given.rule, self.size)
+        self.volume = sum(self.areas) * given.pitch ** 2 * given.layer / 1e12
         self.part = [0, 0, self.columns, self.rows]  # of an image: its place on the canvas, from the top left, and its size
         if given.canvas:
             self.mesh, = part.open(grid=self.grid(), **how)
@@ -70,28 +76,13 @@ class Layers:
                 last, png = made, png_of(self.part[2:], 1, zlib.compress(zlib.decompress(made[DATA]), 9))
             yield png
 
-    def volume(self):
-        """In millilitres."""
-        return sum(self.areas) * self.given.pitch ** 2 * self.given.layer / 1e12
-
 
 def page_of(given, layers):
     name = given.title or ("part" if given.part == "-" else os.path.basename(given.part))
     about = (f"{in_mm(layers.size)} mm; {layers.columns} x {layers.rows} pixels of {given.pitch} µm, {layers.count} layers of "
-             f"{given.layer} µm, rule {given.rule}; {layers.volume():.3f} ml").replace(" x ", " × ")
+             f"{given.layer} µm, rule {given.rule}; {layers.volume:.3f} ml").replace(" x ", " × ")
     data = {"columns": layers.columns, "rows": layers.rows, "pitch": given.pitch, "layer": given.layer, "z": layers.mesh.origin[2],
             "part": layers.part, "images": layers.images, "layers": list(zip(layers.numbers, layers.areas))}
     parts = {"TITLE": html.escape(shown(name)), "ABOUT": about, "DATA": json.dumps(data, separators=(",", ":"))}
     with open(PAGE, encoding="utf-8") as file:
         return re.sub("@(TITLE|ABOUT|DATA)@", lambda it: parts[it[1]], file.read())
-
-
-@command
-def run():
-    given = words_given()
-    look_at_output(given.output, given.part)
-    with whole_file(given.output) as file:
-        layers = Layers(given)
-        size = file.write(page_of(given, layers).encode())
-        line = f"{layers.count} layers, {layers.volume():.3f} ml, {-(-size // 1000)} kB"
-        finish(given, line, file, layers.count, layers.size, layers.volume(), bytes=size)

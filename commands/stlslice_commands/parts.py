@@ -106,8 +106,12 @@ def arrays_of(kind, data, given):
     advice = f"{'unpack' if kind in ('zip', 'gzip') else 'convert'} it: {formats.command_for(kind, name)}"
     if kind not in ("OBJ", "3MF"):
         raise Refused(f"the part is {kind}, not STL; {advice}", 3)
+    if kind == "3MF" and given.unit != "mm":
+        raise Refused("a 3MF has a unit of its own: leave out --unit", 2)
     from . import meshes  # only here, since each start reads what it imports anew
     try:
-        return meshes.read(kind, data, given)
+        # of more facets the library takes no mesh, but shells of a larger one
+        most = meshes.FACETS * (16 if getattr(given, "shells", False) else 1)
+        return meshes.read_obj(data, given.unit) if kind == "OBJ" else meshes.read_3mf(data, most)
     except meshes.NotTaken as fault:
         raise Refused(f"{fault}; {advice}", 3)

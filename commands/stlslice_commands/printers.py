@@ -21,11 +21,9 @@ class Printer:
         self.width, self.depth, self.height = (1000 * Fraction(row[key]) for key in ("width", "depth", "height"))
         self.is_portrait = row["orientation"] == "portrait"
         self.mirror_x, self.mirror_y = row["mirror_x"] == "1", row["mirror_y"] == "1"
-        self.layer = int(row["layer"])
+        self.layer, self.fade, self.area_fill = (int(row[key]) for key in ("layer", "fade", "area_fill"))
         self.exposure, self.first_exposure = float(row["exposure"]), float(row["first_exposure"])
-        self.fade = int(row["fade"])
         self.fast_tilt, self.slow_tilt = float(row["fast_tilt"]), float(row["slow_tilt"])
-        self.area_fill = int(row["area_fill"])
 
     def canvas(self):
         """Columns and rows of an image."""

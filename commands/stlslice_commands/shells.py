@@ -2,6 +2,7 @@
 
 import itertools
 from array import array
+from collections import Counter
 
 from .faults import Progress, Refused
 
@@ -58,10 +59,8 @@ def in_blocks(facets):
 
 def packed(shell_of):
     """The group of each shell, and how many groups there are: each shell stands in the first group that has room for it."""
-    sizes, group_of, room = {}, {}, []
-    for shell in shell_of:
-        sizes[shell] = sizes.get(shell, 0) + 1
-    for shell, size in sizes.items():
+    group_of, room = {}, []
+    for shell, size in Counter(shell_of).items():
         if size > LIMIT:
             raise Refused(f"the part has a shell of {size:,} facets, and --shells takes at most {LIMIT:,}: export it coarser", 3)
         number = next((k for k, left in enumerate(room) if left >= size), len(room))

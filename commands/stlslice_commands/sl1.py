@@ -44,8 +44,8 @@ def run():
         from .slicing import Sliced  # only here, so that what is wrong is told at once
         sliced = Sliced(given)
         with zipfile.ZipFile(file, "w") as archive:
-            duration = fill(archive, sliced, job_name(given.output), now)
-        sliced.finish(file, seconds=round(duration, 1))
+            seconds = fill(archive, sliced, job_name(given.output), now)
+        sliced.finish(file, seconds=round(seconds, 1))
 
 
 def fill_in(given):
@@ -54,10 +54,9 @@ def fill_in(given):
     if given.printer and given.exposure is None and given.layer != usual.layer:
         say(f"the exposure of {usual.exposure:g} s is that of {usual.material}, whose layers are {usual.layer} micrometres high; "
             "--exposure takes another")
-    for name in ("exposure", "first_exposure", "fade", "material"):
-        if getattr(given, name) is None:
+    for name in ("exposure", "first_exposure", "fade", "material", "fast_tilt", "slow_tilt", "area_fill"):
+        if getattr(given, name, None) is None:
             setattr(given, name, getattr(usual, name))
-    given.fast_tilt, given.slow_tilt, given.area_fill = usual.fast_tilt, usual.slow_tilt, usual.area_fill
 
 
 def moment():
@@ -70,17 +69,14 @@ def moment():
 
 def fill(archive, sliced, job, now):
     """Writes a PNG for each layer, and after them the settings and the profile. Returns the seconds that the print takes."""
-
     def entry(name, body):
         head = zipfile.ZipInfo(name, min(max(now[:6], (1980, 1, 1, 0, 0, 0)), LATEST))
         archive.writestr(head, body, zipfile.ZIP_DEFLATED, LEVEL)
 
-    given = sliced.given
-    columns, rows = given.canvas
-    slow = 0
+    given, slow = sliced.given, 0
     for number, (png, lit) in enumerate(sliced.pngs()):
         entry(f"{job}{number:05}.png", png)
-        slow += 100 * lit > given.area_fill * columns * rows
+        slow += 100 * lit > given.area_fill * given.canvas[0] * given.canvas[1]
     seconds = print_time(given, sliced.layers, slow)
     for name, pairs in (("config.ini", settings(sliced, job, slow, seconds, now)), ("prusaslicer.ini", profile(given))):
         entry(name, "".join(f"{key} = {value}\n" for key, value in sorted(pairs.items())))
@@ -89,78 +85,46 @@ def fill(archive, sliced, job, now):
 
 def print_time(given, layers, slow):
     """The seconds of all exposures, and of the tilts after them."""
-    exposures = 0.0
+    seconds, step = 0.0, (given.first_exposure - given.exposure) / (given.fade + 1)
     for number in range(layers):  # one after the other, as the page adds them up: newer Pythons' sum rounds otherwise
-        exposures += exposure_of(number, given)
-    return exposures + given.fast_tilt * (layers - slow) + given.slow_tilt * slow
+        faded = max(0, number - FIRST + 1)
+        seconds += given.exposure if faded > given.fade else given.first_exposure - faded * step
+    return seconds + given.fast_tilt * (layers - slow) + given.slow_tilt * slow
 
 
 def settings(sliced, job, slow, seconds, now):
     """What stands in config.ini. Without a printer's name it names none, as PrusaSlicer does."""
-    given, layers = sliced.given, sliced.layers
-    model = given.printer.model if given.printer else ""
+    given, printer = sliced.given, sliced.given.printer
     return {
-        "action": "print",
-        "expTime": f"{given.exposure:g}",
-        "expTimeFirst": f"{given.first_exposure:g}",
-        "expUserProfile": 0,
+        "action": "print", "jobDir": job, "prusaSlicerVersion": "stlslice",
         "fileCreationTimestamp": time.strftime("%Y-%m-%d at %H:%M:%S UTC", now),
-        "hollow": 0,
-        "jobDir": job,
-        "layerHeight": f"{given.layer / 1000:g}",
-        "materialName": given.material or "resin",
-        "numFade": given.fade,
-        "numFast": layers - slow,
-        "numSlow": slow,
-        "printProfile": f"{given.layer / 1000:g} mm",
-        "printTime": f"{seconds:.6f}",
-        "printerModel": model,
-        "printerProfile": given.printer.name if given.printer else "",
-        "printerVariant": "default" if given.printer else "",
-        "prusaSlicerVersion": "stlslice",
-        "usedMaterial": f"{sliced.millilitres(sliced.lit):.6f}",
+        "printerModel": printer.model if printer else "", "printerProfile": printer.name if printer else "",
+        "printerVariant": "default" if printer else "",
+        "materialName": given.material or "resin", "usedMaterial": f"{sliced.millilitres(sliced.lit):.6f}",
+        "expTime": f"{given.exposure:g}", "expTimeFirst": f"{given.first_exposure:g}", "expUserProfile": 0,
+        "numFade": given.fade, "numFast": sliced.layers - slow, "numSlow": slow, "printTime": f"{seconds:.6f}",
+        "layerHeight": f"{given.layer / 1000:g}", "printProfile": f"{given.layer / 1000:g} mm", "hollow": 0,
     }
 
 
 def profile(given):
-    """What stands in prusaslicer.ini: the screen, from which the images can be placed in space again, and the layers."""
-    return {
-        **screen(given),
-        "exposure_time": f"{given.exposure:g}",
-        "faded_layers": given.fade,
-        "gamma_correction": 0,
-        "initial_exposure_time": f"{given.first_exposure:g}",
-        "initial_layer_height": f"{given.layer / 1000:g}",
-        "layer_height": f"{given.layer / 1000:g}",
-        "printer_model": given.printer.model if given.printer else "",
-        "printer_technology": "SLA",
-    }
-
-
-def screen(given):
-    """The printer's screen as it is built in; without a printer one whose images lie as it is built, which is `landscape`."""
+    """What stands in prusaslicer.ini: the layers, and the screen as it is built in, from which the images can be placed in space
+    again. Without a printer their rows are those of the screen, which is `landscape`."""
     (columns, rows), (width, depth), orientation = given.canvas, given.pitch, "landscape"
     if given.printer and given.printer.is_portrait:
         columns, rows, width, depth, orientation = rows, columns, depth, width, "portrait"
     return {
-        "display_height": f"{float(rows * depth / 1000):.10g}",
-        "display_mirror_x": int(given.mirror_x),
-        "display_mirror_y": int(given.mirror_y),
-        "display_orientation": orientation,
-        "display_pixels_x": columns,
-        "display_pixels_y": rows,
-        "display_width": f"{float(columns * width / 1000):.10g}",
+        "printer_technology": "SLA", "printer_model": given.printer.model if given.printer else "",
+        "display_pixels_x": columns, "display_width": f"{float(columns * width / 1000):.10g}",
+        "display_pixels_y": rows, "display_height": f"{float(rows * depth / 1000):.10g}", "display_orientation": orientation,
+        "display_mirror_x": int(given.mirror_x), "display_mirror_y": int(given.mirror_y), "gamma_correction": 0,
+        "exposure_time": f"{given.exposure:g}", "initial_exposure_time": f"{given.first_exposure:g}", "faded_layers": given.fade,
+        "layer_height": f"{given.layer / 1000:g}", "initial_layer_height": f"{given.layer / 1000:g}",
     }
 
 
 def one_line(text):
     return shown(" ".join(text.split()))
-
-
-def exposure_of(number, given):
-    faded = max(0, number - FIRST + 1)
-    step = (given.first_exposure - given.exposure) / (given.fade + 1)
-    return given.exposure if faded > given.fade else given.first_exposure - faded * step
 
 
 def job_name(output):

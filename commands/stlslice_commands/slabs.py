@@ -28,6 +28,7 @@ The slabs' images, joined, are those of the whole. For layers.pbm - is standard 
 USAGE = "%(prog)s [OPTIONS] part.stl layers.pbm\n       %(prog)s [OPTIONS] --words part.stl"
 WHOLE = words.whole(999_999)
 RULE = words.taking("evenodd, nonzero or positive", "evenodd|nonzero|positive", str)
+UNIT = words.taking("mm or inch", "mm|inch", str)
 HOSTS = words.taking("machines, as host1,host2,:", r"[][A-Za-z0-9\\ @%,:/._+=~-]+", str)
 END = re.compile(rb"IEND\xaeB`\x82")  # of a PNG
 
@@ -47,8 +48,7 @@ def words_given():
     add("-l", dest="layer", type=WHOLE, default=50, metavar="N", help="layer height in micrometres (%(default)s)")
     add("-n", dest="per", type=WHOLE, default=64, metavar="N", help="layers of a slab (%(default)s)")
     add("-r", dest="rule", type=RULE, default="evenodd", metavar="RULE", help="evenodd, nonzero or positive (%(default)s)")
-    add("-u", dest="unit", type=words.taking("mm or inch", "mm|inch", str), default="mm", metavar="UNIT",
-        help="mm or inch (%(default)s)")
+    add("-u", dest="unit", type=UNIT, default="mm", metavar="UNIT", help="mm or inch (%(default)s)")
     add("-j", dest="jobs", default="100%", metavar="JOBS",
         help="slabs at once on each machine, as GNU parallel takes it (one for each processor)")
     add("-S", dest="hosts", type=HOSTS, metavar="HOSTS",
@@ -109,9 +109,10 @@ class Slabs:
 
     def __init__(self, given, slicer):
         with open(given.part, "rb") as file:
-            ran = subprocess.run([slicer, "--box", "--unit", given.unit], stdin=file, stdout=subprocess.PIPE, stderr=sys.stderr)
+            ran = subprocess.run([slicer, "--box", "--unit", given.unit], stdin=file, capture_output=True)
         if ran.returncode:
-            raise Refused(None, status_of(ran))
+            line = None if ran.stderr else f"{slicer} --box ended with status {status_of(ran)} and no line"
+            raise Refused(line, status_of(ran), ran.stderr.decode(errors="backslashreplace"))
         told = re.fullmatch(rb"facets \d+(?: box((?: -?\d{1,10}){6}))?\n", ran.stdout)
         if not told:
             raise Refused(f"{slicer} is no stlslice")
@@ -122,9 +123,8 @@ class Slabs:
         columns, rows, self.layers = (max(1, -(-(after - before) // step)) for before, after, step in sides)
         self.size = len(f"P4\n{columns} {rows}\n") + rows * ((columns + 7) // 8)
         shared = f"--pitch {given.pitch} --layer {given.layer} --rule {given.rule} --unit {given.unit}"
-        if given.png:
-            shared += " --png" + (f" --depth {given.depth}" if given.depth else "")
-            shared += " --mirror-x" * given.mirror_x + " --mirror-y" * given.mirror_y
+        shared += " --png" * given.png + (f" --depth {given.depth}" if given.depth else "")
+        shared += " --mirror-x" * given.mirror_x + " --mirror-y" * given.mirror_y
         self.words = [f"{shared} --grid={columns},{rows},{min(given.per, self.layers - k)},"
                       f"{box[0]},{box[1]},{box[2] + k * given.layer}" for k in range(0, self.layers, given.per)]
 
@@ -153,8 +153,8 @@ def told(line):
 
 
 def call_of_parallel(given, slicer, slabs, folder):
-    """The call by which GNU parallel runs the slabs, in a folder that has their commands. These are whole, since parallel would find
-    marks of its own, such as {}, in names."""
+    """The call by which GNU parallel runs the slabs, in a folder that has their commands. These are whole, since parallel would
+    find marks of its own, such as {}, in names."""
     call = [os.path.abspath(shutil.which("parallel")), "--plain", "--will-cite", "--keep-order", "--null", "--halt", "now,fail=1",
             "--jobs", given.jobs]
     if given.hosts:
@@ -172,8 +172,7 @@ def call_of_parallel(given, slicer, slabs, folder):
 
 
 def passed_on(given, call, folder, file):
-    """Writes what the slabs give. Returns the status of GNU parallel, and what is to be told of a failure: the first line of all slabs,
-    and what parallel says if it fails itself. Of a slab that fails it would tell the command."""
+    """Writes what the slabs give. Returns the status of GNU parallel, the first line that slabs said, and what parallel said."""
     environment = {**os.environ, "TMPDIR": os.path.dirname(folder)}
     if not given.hosts:
         environment["PARALLEL_SHELL"] = "/bin/sh"
@@ -183,24 +182,18 @@ def passed_on(given, call, folder, file):
                                  stderr=sys.stderr if given.hosts or sys.stderr.isatty() else own,
                                  preexec_fn=partial(signal.signal, signal.SIGINT, signal.SIG_IGN))
         with undone(partial(end, child)):
-            for block in iter(partial(child.stdout.read, BLOCK), b""):
-                file.write(block)
+            shutil.copyfileobj(child.stdout, file, BLOCK)
             child.wait()
         own.seek(0)
-        by_itself = own.read() if child.returncode == 255 else ""
-    faults = os.path.join(folder, "faults")
-    with open(faults if os.path.exists(faults) else os.devnull, errors="backslashreplace") as said:
-        return status_of(child), said.readline() + by_itself
+        faults = os.path.join(folder, "faults")
+        with open(faults if os.path.exists(faults) else os.devnull, errors="backslashreplace") as said:
+            return status_of(child), said.readline(), own.read()
 
 
 def end(child):
-    """Ends parallel and its slabs. It hears this as soon as it has begun, and is killed if it hasn't ended 5 seconds later. What they
-    still write is lost."""
-    def lose():
-        while child.stdout.read(BLOCK):
-            pass
-
-    threading.Thread(target=lose, daemon=True).start()
+    """Ends parallel and its slabs. It hears this as soon as it has begun, and is killed if it hasn't ended 5 seconds later. What
+    they still write is lost."""
+    threading.Thread(target=shutil.copyfileobj, args=(child.stdout, open(os.devnull, "wb")), daemon=True).start()
     with contextlib.suppress(ProcessLookupError, ChildProcessError):
         for number in [*10 * [signal.SIGTERM], signal.SIGKILL]:
             if child.returncode is not None or os.waitpid(child.pid, os.WNOHANG)[0]:
@@ -218,12 +211,17 @@ def make(given, slicer, slabs):
             stack.enter_context(undone(partial(remove, folder)))
             call = call_of_parallel(given, slicer, slabs, folder)
         with told(f"{name} can't be written"), whole_file(given.output) as file:
-            status, told_before = passed_on(given, call, folder, file)
+            status, line, of_parallel = passed_on(given, call, folder, file)
             if status == 255:
-                raise Refused("GNU parallel or ssh failed", 1, told_before)
+                raise Refused("GNU parallel or ssh failed", 1, line + of_parallel)
+            if status and (line or given.hosts):
+                raise Refused(None, status, line)
             if status:
-                line = f"a slab ended with status {status} and no line: is the temporary folder {place} full, or memory short?"
-                raise Refused(None if told_before or given.hosts else line, status, told_before)
+                # parallel tells the command of the slab that failed
+                numbers = [number for number, it in enumerate(slabs.words, 1) if f" {it} " in of_parallel]
+                which = f"slab {numbers[0]} of {len(slabs.words)}" if numbers else "a slab"
+                raise Refused(f"{which} ended with status {status} and no line: is the temporary folder {place} full, or memory "
+                              "short?", status)
             if not slabs.are_whole(given, file):
                 raise Refused(f"{name} can't be written: images of slabs are lost; is the temporary folder {place} full?")
             look_at_output(given.output, given.part)

@@ -16,10 +16,9 @@ class Sliced:
     """A part on a screen: its size in micrometres, how many layers it has, and their images."""
 
     def __init__(self, given):
-        self.given, self.part, self.size = given, Part(given), None
+        self.given, self.part, self.size, self.lit = given, Part(given), None, 0
         self.meshes = self.placed()
         self.layers = len(self.meshes[0])
-        self.lit = 0
         self.areas = self.areas_of_lit()
 
     def placed(self):
@@ -56,18 +55,14 @@ class Sliced:
         if not asked and self.part.unit and not 1000 <= max(self.size) <= 1_000_000:
             say(f"the part is {in_mm(self.size)} mm: is {self.part.unit} the unit of its numbers? --unit takes mm, cm, m or inch")
 
-    def room(self, quarters):
-        """The sides of the screen, and the printer's height if one is known, along the sides of a part that is turned so."""
-        sides = [count * pitch for count, pitch in zip(self.given.canvas, self.given.pitch)]
-        return (sides[::-1] if quarters % 2 else sides) + ([self.given.height] if self.given.height else [])
-
-    def fits(self, quarters):
-        return all(length <= room for length, room in zip(self.size, self.room(quarters)))
-
     def refuse_large(self, usual, more):
-        screen = f"the {self.given.printer.model}" if self.given.printer else "the canvas"
-        line = f"the part doesn't fit: it is {in_mm(self.size)} mm, {screen} {in_mm(self.room(usual))} mm"
-        if self.fits(usual + 1 - more):
+        given = self.given
+        sides = [count * pitch for count, pitch in zip(given.canvas, given.pitch)]
+        # along the sides of the part, if it is turned by an even or an odd number of quarters
+        rooms = [it + ([given.height] if given.height else []) for it in (sides, sides[::-1])]
+        screen = f"the {given.printer.model}" if given.printer else "the canvas"
+        line = f"the part doesn't fit: it is {in_mm(self.size)} mm, {screen} {in_mm(rooms[usual])} mm"
+        if all(length <= room for length, room in zip(self.size, rooms[(usual + 1 - more) % 2])):
             line += "; it fits without --turn" if more else "; turned by a quarter it fits: --turn"
         elif more:
             line += "; turned by a quarter it doesn't fit either"
@@ -87,8 +82,8 @@ class Sliced:
         totals, *other_totals = [list(map(sum, it)) for it in (areas, *others)]
         if not any(totals):
             self.part.refuse_unlit(rule, self.size)
-        # What `nonzero` lights and `positive` doesn't is enclosed more often inwards than outwards. Images of several meshes can't be
-        # joined then, since an overlap with another mesh may be dark.
+        # What `nonzero` lights and `positive` doesn't is enclosed more often inwards than outwards. Images of several meshes
+        # can't be joined then, since an overlap with another mesh may be dark.
         if others and other_totals != [totals]:
             if not is_one:
                 raise Refused("a shell is inside out, or bounds a hollow: --shells joins such shells by --rule evenodd alone")
