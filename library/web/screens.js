@@ -63,7 +63,8 @@ function tell_part() {
     by("facts").replaceChildren(...told.flatMap(([name, value]) => [element("dt", name), element("dd", value)]));
 }
 
-// Says whose the exposures are that are not given: a printer's are for layers of one height, those of another screen of no resin.
+// Says whose the exposures are that are not given, and shows their fields: a printer's are for layers of one height, those of another
+// screen for no resin.
 function tell_exposures() {
     const { value } = by("printer"), usual = printer_now(), layer = number_in("height"), is_left = (id) => by(id).value === "";
     const left = [["exposure", `${USUAL.exposure} s`], ["first_exposure", `${USUAL.first_exposure} s for the first layers`]]
@@ -75,6 +76,7 @@ function tell_exposures() {
     if (left.length)
         words = `Exposures depend on the resin: take those of its data sheet. ${left.join(" and ")} `
             + `${left.length > 1 ? "are placeholders" : "is a placeholder"}, for no resin.`;
+    if (words && words !== by("exposed").textContent) by("exposures").open = true;
     by("exposed").textContent = words;
 }
 

@@ -60,10 +60,9 @@ function lay_form() {
     }
     const usual = printer_now() ?? USUAL;
     for (const id of GIVEN) by(id).placeholder = usual[id] === "" ? "resin" : usual[id];
-    // exposures that were given, or have to be, are seen
-    const { value } = by("printer"), is_to_be_seen = value === "own" || GIVEN.some((id) => by(id).value !== "");
-    if (value !== laid && is_to_be_seen) by("exposures").open = true;
-    laid = value;
+    // exposures that were given, perhaps for another printer, are seen
+    if (by("printer").value !== laid && GIVEN.some((id) => by(id).value !== "")) by("exposures").open = true;
+    laid = by("printer").value;
     tell_exposures();
 }
 

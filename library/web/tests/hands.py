@@ -204,6 +204,8 @@ def try_exposures(page):
     same([page.value(folded), page.text("exposed")], [True, ""], "the exposures of a printer")
     page.change(height=100)
     holds(page.text("exposed"), page.text("exposed").startswith("2 s is the exposure of Prusa Orange Tough"))
+    same(page.value(folded), False, "whether exposures for other layers are folded")
+    page.value("by('exposures').open = false")
     page.change(printer="own")
     holds("they are seen for another screen", page.value("['exposure', 'first_exposure', 'exposed'].every((id) => by(id).checkVisibility())"))
     begin = "Exposures depend on the resin: take those of its data sheet."
