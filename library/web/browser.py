@@ -145,9 +145,30 @@ class Browser:
         node = self.ask("DOM.querySelector", nodeId=root, selector=selector)["nodeId"]
         self.ask("DOM.setFileInputFiles", nodeId=node, files=[path])
 
-    def drop(self, paths, x, y):
-        for kind in ("dragEnter", "dragOver", "drop"):
+    def choose_in_window(self, press, path):
+        """Chooses a file in the browser's window for files, which `press` opens. The window itself is not seen."""
+        self.ask("Page.setInterceptFileChooserDialog", enabled=True)
+        since = len(self.events)
+        press()
+        self.ask("DOM.setFileInputFiles", backendNodeId=self.event("Page.fileChooserOpened", since)["backendNodeId"], files=[path])
+        self.ask("Page.setInterceptFileChooserDialog", enabled=False)
+
+    def event(self, method, since):
+        """What the first such event told, after so many events."""
+        end = time.time() + SECONDS
+        while time.time() < end:
+            self.value("new Promise((done) => setTimeout(done, 20))")
+            for it in self.events[since:]:
+                if it["method"] == method:
+                    return it["params"]
+        raise TimeoutError(method)
+
+    def drag(self, paths, x, y, kinds=("dragEnter", "dragOver")):
+        for kind in kinds:
             self.ask("Input.dispatchDragEvent", type=kind, x=x, y=y, data={"items": [], "files": paths, "dragOperationsMask": 1})
+
+    def drop(self, paths, x, y):
+        self.drag(paths, x, y, ("dragEnter", "dragOver", "drop"))
 
     def key(self, name, code=None, text=None, modifiers=0):
         """Presses a key and lets it go; `text` is what it writes, and modifiers are 8 for Shift."""

@@ -16,6 +16,7 @@ import tempfile
 import time
 
 NAMES = ("firefox-esr", "firefox")
+FLAGS = ["--headless", "--marionette", "--no-remote", "--remote-allow-system-access"]
 SECONDS = 120  # for one reply
 SETTINGS = {
     "browser.download.folderList": 2, "browser.download.always_ask_before_handling_new_types": False,
@@ -28,6 +29,14 @@ SETTINGS = {
 # Runs a script of the page, whose value may be promised, and passes its value on as JSON
 ASK = """const done = arguments[arguments.length - 1];
 window.eval(arguments[0]).then((value) => done({ value }), (fault) => done({ fault: String(fault) }));"""
+# Makes what stands in the place of the window for files: it gives this file at once
+WINDOW = """const { classes, interfaces, manager } = Components, of = (name) => ChromeUtils.generateQI([name]), nothing = () => {};
+const file = classes["@mozilla.org/file/local;1"].createInstance(interfaces.nsIFile);
+file.initWithPath(arguments[0]);
+const made = { QueryInterface: of("nsIFilePicker"), init: nothing, appendFilter: nothing, appendFilters: nothing, file,
+    open: (told) => Services.tm.dispatchToMainThread(() => told.done(interfaces.nsIFilePicker.returnOK)) };
+manager.QueryInterface(interfaces.nsIComponentRegistrar).registerFactory(Services.uuid.generateUUID(), "", "@mozilla.org/filepicker;1",
+    { QueryInterface: of("nsIFactory"), createInstance: (it) => made.QueryInterface(it) });"""
 KEYS = {"ArrowLeft": "\ue012", "ArrowUp": "\ue013", "ArrowRight": "\ue014", "ArrowDown": "\ue015", "Tab": "\ue004", "Enter": "\ue007"}
 
 
@@ -54,9 +63,8 @@ class Browser:
             for name, value in {**SETTINGS, "marionette.port": port, "browser.download.dir": self.saved}.items():
                 file.write(f"user_pref({json.dumps(name)}, {json.dumps(value)});\n")
         with open(os.path.join(self.room, "log"), "w", encoding="utf-8") as log:
-            self.process = subprocess.Popen([program(), "--headless", "--marionette", "--no-remote", "--profile", profile, "about:blank"],
-                                            env={**os.environ, "HOME": self.room}, stdin=subprocess.DEVNULL, stdout=log, stderr=log,
-                                            start_new_session=True)
+            self.process = subprocess.Popen([program(), *FLAGS, "--profile", profile, "about:blank"], env={**os.environ, "HOME": self.room},
+                                            stdin=subprocess.DEVNULL, stdout=log, stderr=log, start_new_session=True)
         self.number, self.rest = 0, b""
         self.socket = self.connected(port)
         self.message()  # its greeting
@@ -132,6 +140,13 @@ class Browser:
     def choose(self, selector, path):
         found = self.ask("WebDriver:FindElement", using="css selector", value=selector)["value"]
         self.ask("WebDriver:ElementSendKeys", id=next(iter(found.values())), text=path)
+
+    def choose_in_window(self, press, path):
+        """Chooses a file in the browser's window for files, which `press` opens. The window itself is not seen."""
+        self.ask("Marionette:SetContext", value="chrome")
+        self.ask("WebDriver:ExecuteScript", script=WINDOW, args=[path], sandbox="system")
+        self.ask("Marionette:SetContext", value="content")
+        press()
 
     def key(self, name, *_):
         """Presses a key and lets it go."""

@@ -11,6 +11,7 @@ by("form").onchange = () => {
 by("archive").onsubmit = (it) => it.preventDefault();
 by("archive").onchange = () => {
     keep();
+    tell_exposures();
     tell_command();
     draw();
 };

@@ -28,6 +28,8 @@ const OTHERS = {
     "a web page": "It is a web page that was saved in the part's place. Download the part itself once more.",
     "a picture or document": "It is a picture or a document, and has no part in it.",
 };
+const NOT_WHOLE = { title: "A binary STL that is not whole, or another kind of file",
+    words: ["It was cut, or it is another kind of file. Get it again, or export the part again as STL."] };
 
 // Hints by the word that does not fit, or by the kind of the file.
 const TELLING = [
@@ -40,12 +42,7 @@ const OF_KINDS = { "UTF-16": "UTF-16", "byte order mark": "Byte order mark", gzi
 
 // The hint for a file of this kind: an empty list if docs/refused.md says it all, or if the kind is not known.
 function advice(kind, name) {
-    const cut = /^a binary STL of (\d+) facets$/.exec(kind);
-    if (cut) {
-        const words = [`Its first bytes tell of ${grouped(Number(cut[1]))} facets, which take ${grouped(84 + 50 * cut[1])} bytes. `
-            + "The file has another length: it was cut, or it is another kind of file. Get it again, or export the part again as STL."];
-        return [{ title: "A binary STL that is not whole, or another kind of file", words }];
-    }
+    if (kind === "not whole") return [NOT_WHOLE];
     if (OTHERS[kind]) return [{ title: `${kind[0].toUpperCase()}${kind.slice(1)}, not an STL`, words: [OTHERS[kind]] }];
     if (!WAYS[kind]) return [];
     const words = PACKED.includes(kind) ? ["Unpack it, and choose the STL that is in it:"]
@@ -59,7 +56,7 @@ function advice(kind, name) {
 // A command for a file. Programs that convert tell a format by the name's ending, so a file with another one is copied.
 function with_names(way, kind, name) {
     const ending = `.${kind.toLowerCase()}`, is_told = PACKED.includes(kind) || name.toLowerCase().endsWith(ending);
-    const made = `${stem(name)}.stl` === name ? `${stem(name)}-2.stl` : `${stem(name)}.stl`, from = is_told ? name : stem(name) + ending;
+    const made = made_of(name, ".stl"), from = is_told ? name : stem(name) + ending;
     const copied = is_told ? "" : `cp ${named(name)} ${named(from)} && `;
     return copied + way.replaceAll("NAME", named(from)).replaceAll("MADE", named(made));
 }

@@ -4,6 +4,7 @@ const BINARY = { head: 84, facet: 50, count: 80 };
 const NEAR_END = 256; // bytes
 
 let file = null, is_binary = false;
+let not_whole = null; // the commands' line, if the file is neither text nor a whole binary STL
 
 // Kinds of files by their first bytes, each a letter. The first are those of the commands, which tell them in the same way: a 3MF
 // is a zip with one of these names within its first 128 bytes.
@@ -30,21 +31,31 @@ const KINDS = {
     "a web page": /^\s*<(!doctype html|html|head|body)\b/i,
     "a picture or document": /^(\x89PNG|\xff\xd8\xff|GIF8|BM|%PDF|\{\\rtf|\xd0\xcf\x11\xe0)/,
 };
+const NAMED = ["3MF", "zip", "gzip", "PLY", "OFF", "OBJ", "AMF", "UTF-16"]; // what the commands take for no binary STL
 
 // Takes the bytes of a part. The library too takes a file of this length for a binary STL.
 function read({ all }) {
     file = new Uint8Array(all);
-    const count = file.length < BINARY.head ? 0 : new DataView(all).getUint32(BINARY.count, true);
-    is_binary = file.length >= BINARY.head && file.length === BINARY.head + BINARY.facet * count;
-    return { is_binary, kind: is_binary ? null : kind_of(file, count) };
+    const has_head = file.length >= BINARY.head, count = has_head ? new DataView(all).getUint32(BINARY.count, true) : 0;
+    is_binary = has_head && file.length === size_of(count);
+    const kind = is_binary ? null : kind_of(file);
+    not_whole = has_head && !is_binary && may_be_binary(file, kind) ? not_whole_line(count, file.length) : null;
+    return { is_binary, kind: kind ?? (not_whole && "not whole") };
 }
 
-function kind_of(all, count) {
+const size_of = (count) => BINARY.head + BINARY.facet * count;
+
+function kind_of(all) {
     const head = letters_of(all.subarray(0, 1024));
-    const found = Object.keys(KINDS).find((it) => KINDS[it].test(head));
-    // a binary STL has a 0 there, in its count of facets at the latest
-    const is_cut = !found && all.length >= BINARY.head && head.slice(0, BINARY.head).includes("\0");
-    return is_cut ? `a binary STL of ${count} facets` : found ?? null;
+    return Object.keys(KINDS).find((it) => KINDS[it].test(head)) ?? null;
+}
+
+// A binary STL has a 0 there, in its count of facets at the latest.
+const may_be_binary = (all, kind) => !NAMED.includes(kind) && all.subarray(0, BINARY.head).includes(0);
+
+function not_whole_line(count, length) {
+    const [facets, wanted, found] = [count, size_of(count), length].map((it) => it.toLocaleString("en-US"));
+    return `the part is no text, and no whole binary STL: its header counts ${facets} facets, which take ${wanted} bytes, and it has ${found}`;
 }
 
 // A letter for each byte, as names of solids may have any bytes. (What decoders call Latin-1 is another code.)

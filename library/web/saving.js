@@ -21,7 +21,7 @@ function moment() {
 const save_all = latest(async (is_last, kind) => {
     const of = opened;
     if (!kind || !of || !is_archive_right()) return;
-    const is_archive = kind === "archive", name = `${stem(of.of.name)}${is_archive ? ".sl1" : "_pngs.zip"}`;
+    const is_archive = kind === "archive", name = is_archive ? made_of(of.of.name, ".sl1") : `${stem(of.of.name)}_pngs.zip`;
     const goes_on = () => of === opened && is_last();
     begin_wait(`Saving ${name}`);
     try {
@@ -41,8 +41,7 @@ const save_all = latest(async (is_last, kind) => {
 
 // A wrong field is shown, which a browser does not do where it is folded away.
 function is_archive_right() {
-    const details = by("archive").querySelector("details");
-    details.open ||= !by("archive").checkValidity();
+    by("exposures").open ||= !by("archive").checkValidity();
     return by("archive").reportValidity();
 }
 

@@ -63,26 +63,43 @@ function tell_part() {
     by("facts").replaceChildren(...told.flatMap(([name, value]) => [element("dt", name), element("dd", value)]));
 }
 
+// Says whose the exposures are that are not given, and shows their fields: a printer's are for layers of one height, those of another
+// screen for no resin.
+function tell_exposures() {
+    const { value } = by("printer"), usual = printer_now(), layer = number_in("height"), is_left = (id) => by(id).value === "";
+    const left = [["exposure", `${USUAL.exposure} s`], ["first_exposure", `${USUAL.first_exposure} s for the first layers`]]
+        .filter(([id]) => value === "own" && is_left(id)).map(([, words]) => words);
+    let words = "";
+    if (usual && layer > 0 && layer !== usual.layer && is_left("exposure"))
+        words = `${usual.exposure} s is the exposure of ${usual.material}, whose layers are ${usual.layer} µm high: for layers of `
+            + `${layer} µm give another.`;
+    if (left.length)
+        words = `Exposures depend on the resin: take those of its data sheet. ${left.join(" and ")} `
+            + `${left.length > 1 ? "are placeholders" : "is a placeholder"}, for no resin.`;
+    if (words && words !== by("exposed").textContent) by("exposures").open = true;
+    by("exposed").textContent = words;
+}
+
 function tell_command() {
     if (!opened) return;
-    const { layer, screen } = opened.options, usual = screen?.printer ?? null;
-    const is_of_others = usual && usual.layer !== layer && by("exposure").value === "";
-    by("exposed").textContent = is_of_others ? `${usual.exposure} s is the exposure of ${usual.material}, whose layers are `
-        + `${usual.layer} µm high: for layers of ${layer} µm give another.` : "";
-    const pieces = (word) => word.match(/[^,]+,?/g).flatMap((it) => [classed("whole", it), element("wbr")]);
+    by("copied").textContent = "";
+    const pieces = (word) => word.split(/(?<=,)/).flatMap((it) => [classed("whole", it), element("wbr")]);
     by("command").replaceChildren(...command_of(opened).flatMap((it) => it.startsWith("--") ? [...pieces(it), " "] : [it, " "]));
 }
 
+let said = null; // the timer of what is said of a copy
+
 async function copy() {
-    let words = "not copied: mark it and copy it by hand";
+    let words = "not copied: it is marked, so copy it by hand";
+    clearTimeout(said);
     try {
         await navigator.clipboard.writeText(by("command").textContent.trim());
         words = "copied";
+        said = setTimeout(() => { by("copied").textContent = ""; }, 4000);
     } catch {
         getSelection().selectAllChildren(by("command"));
     }
     by("copied").textContent = words;
-    setTimeout(() => { by("copied").textContent = ""; }, 4000);
 }
 
 function tell_layer() {

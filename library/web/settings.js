@@ -46,6 +46,8 @@ function restore() {
     lay_form();
 }
 
+let laid = null; // the printer that the form was laid for
+
 // The printer that is chosen by name, or none.
 const printer_now = () => data.printers.find(({ model }) => model === by("printer").value) ?? null;
 
@@ -58,6 +60,10 @@ function lay_form() {
     }
     const usual = printer_now() ?? USUAL;
     for (const id of GIVEN) by(id).placeholder = usual[id] === "" ? "resin" : usual[id];
+    // exposures that were given, perhaps for another printer, are seen
+    if (by("printer").value !== laid && GIVEN.some((id) => by(id).value !== "")) by("exposures").open = true;
+    laid = by("printer").value;
+    tell_exposures();
 }
 
 // A length in micrometres as a fraction in lowest terms: "47.25" is 189/4.
@@ -98,19 +104,26 @@ function archive_now() {
 // ---- the command
 
 const stem = (name) => name.replace(/(\.stl)?\.\w+$/i, "");
-const quoted = (word) => /^[\w@%+=:,./-]+$/.test(word) ? word : `'${word.replaceAll("'", "'\\''")}'`;
+// zsh reads = at the beginning of a word otherwise
+const quoted = (word) => /^[\w@%+:,./-]+$/.test(word) ? word : `'${word.replaceAll("'", "'\\''")}'`;
 // a name that begins with a minus would be taken for an option
 const named = (name) => quoted(name.startsWith("-") ? `./${name}` : name);
+
+// The name of what is made of a part: never the part's own, which a shell would empty first. Some disks take a and A for one.
+function made_of(name, ending) {
+    const made = stem(name) + ending;
+    return made.toLowerCase() === name.toLowerCase() ? `${stem(name)}-2${ending}` : made;
+}
 
 // The words of the command that makes the same layers of the same file: those of a screen as an archive. The program reads
 // no binary file, and takes no cm or m.
 function command_of({ options: { pitch, layer, rule, unit, screen }, of }) {
     const name = named(of.name), words = [`--layer ${layer}`, `--rule ${by("rule").options[rule].text}`];
     if (unit) words.push(`--unit ${UNITS[unit]}`);
-    if (screen) return ["stlslice-sl1", ...words_of(screen), ...words, ...archive_words(), name, named(`${stem(of.name)}.sl1`)];
+    if (screen) return ["stlslice-sl1", ...words_of(screen), ...words, ...archive_words(), name, named(made_of(of.name, ".sl1"))];
     words.unshift(`--pitch ${pitch}`);
-    if (of.is_binary || unit > 1) return ["stlslice-page", ...words, name, named(`${stem(of.name)}.html`)];
-    return ["stlslice", ...words, `< ${name}`, `> ${named(`${stem(of.name)}.pbm`)}`];
+    if (of.is_binary || unit > 1) return ["stlslice-page", ...words, name, named(made_of(of.name, ".html"))];
+    return ["stlslice", ...words, `< ${name}`, `> ${named(made_of(of.name, ".pbm"))}`];
 }
 
 function words_of({ printer, canvas, pitch }) {

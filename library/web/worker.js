@@ -1,7 +1,7 @@
 // The slicer, in a worker: the library as WebAssembly, with one part and its mesh at a time. A message has the name of
 // a call and a number, and the reply has the same number. Calls run one after the other.
 
-const DONE = 0, MEMORY = 6, NO_ROOM = 7, LINE = 256;
+const DONE = 0, NO_STL = 3, MEMORY = 6, NO_ROOM = 7, LINE = 256;
 const HEAD = 16; // bytes before the rows of an image, of which the words take no more
 const FITTED = 0, GIVEN = 1, SCREEN = 2; // where the grid lies
 const AREAS_AT_ONCE = 32; // layers
@@ -113,6 +113,7 @@ function small_places() {
 
 // Opens the part's mesh: in the grid that fits it, in a given one, or in the middle of a printer's screen.
 function open(options) {
+    if (not_whole) throw new Fault(NO_STL, not_whole);
     const began = performance.now(), at = allocated(file.length);
     try {
         bytes(at, file.length).set(file);

@@ -100,9 +100,11 @@ KINDS = {
     "-part.gcode": ("G-code, not an STL", "made for one printer"),
     "part.html": ("A web page, not an STL", "Download the part itself"),
     "part.png": ("A picture or document, not an STL", "no part in it"),
-    "cut.stl": ("A binary STL that is not whole, or another kind of file", "12 facets, which take 684 bytes"),
+    "cut.stl": ("A binary STL that is not whole, or another kind of file", "Get it again"),
     "mark.stl": ("Byte order mark", "sed"), "wide.stl": ("UTF-16", "iconv"),
 }
+
+NOT_WHOLE = ("the part is no text, and no whole binary STL: its header counts 12 facets, which take 684 bytes, and it has 584")
 
 
 def bodies():
@@ -141,7 +143,8 @@ def try_kinds(page, room):
             file.write(body)
         page.take(path)
         title, words = KINDS[name]
-        holds(f"the line of {name}: {page.text('fault_line')}", page.text("fault_line").startswith("expected solid at byte "))
+        line = NOT_WHOLE if name == "cut.stl" else "expected solid at byte "
+        holds(f"the line of {name}: {page.text('fault_line')}", page.text("fault_line").startswith(line))
         same(page.value("by('hints').querySelector('summary').textContent"), title, f"the first hint of {name}")
         told = page.value("by('hints').querySelector('details').textContent")
         holds(f"{told!r} says {words!r}", words in told)
@@ -158,16 +161,27 @@ PIECES = [*(it.encode() for it in (
     "\t", "\n", "\r", "\v", "\f")), b"\x1f\x8b", b"\xef\xbb\xbf", b"\xa0", b"\xff\xfe", bytes(100), bytes(17)]
 
 
+def told_by_commands(data):
+    """The kind of a file, and the line of one that is neither text nor a whole binary STL."""
+    from stlslice_commands import faults, parts
+    try:
+        return [parts.kind_of(data), None]
+    except faults.Refused as fault:
+        return [None, fault.line]
+
+
 def try_kinds_of_commands(page):
-    """A file is of a kind that the commands know exactly if they say so."""
+    """A file is of a kind that the commands know exactly if they say so, and is refused by its length with their line."""
     from stlslice_commands import formats
     draw, known = random.Random(31), set(formats.KINDS)
     heads = [b"".join(draw.choices(PIECES, k=draw.randint(1, 6))) for _ in range(20000)]
-    told = page.in_worker(f"{json.dumps([it.hex() for it in heads])}.map((it) => "
-                          "kind_of(Uint8Array.from(it.match(/../g), (byte) => parseInt(byte, 16)), 0))")
-    wanted = [formats.kind_of(it) for it in heads]
-    same([kind if kind in known else None for kind in told], wanted, "kinds")
-    same(set(wanted), {None, *known}, "the kinds that were seen")
+    told = page.in_worker(f"{json.dumps([it.hex() for it in heads])}.map((it) => {{"
+                          "const { kind } = read({ all: Uint8Array.from(it.match(/../g), (byte) => parseInt(byte, 16)).buffer });"
+                          "return [kind, not_whole]; })")
+    wanted = [told_by_commands(it) for it in heads]
+    same([[kind if kind in known else None, line] for kind, line in told], wanted, "kinds and lines")
+    same({kind for kind, _ in wanted}, {None, *known}, "the kinds that were seen")
+    holds("lines by length were seen", 1000 < sum(line is not None for _, line in wanted) < 10000)
 
 
 def try_first_hints(page, room):

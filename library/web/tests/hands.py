@@ -1,11 +1,9 @@
-"""The page for hands and eyes: buttons, swipes, scrolling, the keyboard alone, colours, what is kept, the command."""
+"""The page for hands and eyes: buttons, swipes, scrolling, the keyboard alone, colours, what is kept, exposures."""
 
 import contextlib
 import json
 import os
-import shlex
 
-from archives import ran_command
 from common import IDLE, PHONE, example, holds, same, script
 
 TWICE = (195, 422), (720, 450), (512, 350)  # PHONE, DESK and 1024 x 700 at 200 %
@@ -84,11 +82,15 @@ def try_scrolling(page):
 
 
 def try_keyboard(page):
-    """With the keyboard alone: choose, slice, look, save. The file's window is the browser's own, so the file is handed in."""
+    """With the keyboard alone: choose, slice, look, save. The window for files is the browser's own: it is seen that a key opens it, and
+    the file is handed in."""
     page.load()
     page.browser.key("Tab")
     same(page.value("document.activeElement.id"), "file", "what the first Tab comes to")
-    page.take(example("bracket"))
+    for name, how in (("supported", (" ", "Space", " ")), ("bracket", ("Enter", None, "\r"))):
+        go_to(page, "file")
+        page.browser.choose_in_window(lambda: page.browser.key(*how), example(name))
+        page.until(f"{IDLE} && part.name === '{name}.stl'")
     k = page.k()
     same(page.value("document.activeElement.id"), "image", "where the keys go on")
     page.browser.key("ArrowUp")
@@ -194,57 +196,28 @@ def try_kept(page):
     same(page.value("opened.layers"), 54, "a page without storage")
 
 
-def try_command(page, program):
-    """The command that is copied names the part, and makes the same."""
-    opened_bracket(page)
-    page.change(unit=1, height=500)
-    page.until(f"{IDLE} && opened.options.unit === 1 && opened.options.layer === 500")
-    same(page.text("command").strip(), "stlslice --pitch 100 --layer 500 --rule positive --unit inch < bracket.stl > bracket.pbm",
-         "the command of a part")
-    names = {"a b's.stl": "'a b'\\''s.stl'", "-x.stl": "./-x.stl", "plain.stl": "plain.stl"}
-    same(page.value(f"{json.dumps(list(names))}.map(named)"), list(names.values()), "names in a command")
-    same([shlex.split(it)[0] for it in names.values()], ["a b's.stl", "./-x.stl", "plain.stl"], "words of a shell")
-    page.change(unit=0, printer="own", columns=800, rows=600, width="100.0", depth="47.25")
-    page.until(f"{IDLE} && opened.columns === 800")
-    page.value("by('mirror_x').checked = true; by('material').value = 'a b'; by('archive').dispatchEvent(new Event('change'))")
-    same(page.text("command").strip(), "stlslice-sl1 --canvas 800x600 --pitch 100x47.25 --mirror-x --layer 500 --rule positive "
-         "--material 'a b' bracket.stl bracket.sl1", "the command of a screen")
-    page.change(printer="SL1S", turn=True)
-    page.until(f"{IDLE} && opened.columns === 1620")
-    same(page.text("command").strip(), "stlslice-sl1 --printer SL1S --turn --layer 500 --rule positive --material 'a b' bracket.stl "
-         "bracket.sl1", "the command of a printer")
-    holds("the exposure is that of other layers", page.text("exposed").startswith("2 s is the exposure of Prusa Orange Tough"))
-    page.value("by('exposure').value = '2.5'; by('archive').dispatchEvent(new Event('change'))")
-    same([page.text("exposed"), "--exposure 2.5" in page.text("command")], ["", True], "the words on an exposure that is given")
-    try_copy(page)
-
-
-def try_other_units(page, program):
-    """The command for a unit that the program does not take is another, which finds as much in the part."""
+def try_exposures(page):
+    """Exposures that were given, or have to be, are seen; of others it is said whose they are."""
     page.load()
-    page.set(2000, 5000, unit=2)
-    page.take(example("bracket"))
-    page.until("areas.length === opened.layers")
-    words = shlex.split(page.text("command"))
-    same(words, "stlslice-page --pitch 2000 --layer 5000 --rule positive --unit cm bracket.stl bracket.html".split(), "the command for cm")
-    made = os.path.join(page.browser.saved, words[-1])
-    ran = ran_command(program, words[0], *words[1:-2], example("bracket"), made)
-    holds(f"{ran.stdout} has the page's volume", f"{made}: 54 layers, {page.value('millilitres(sum(areas))')} ml" in ran.stdout)
-    os.remove(made)
-    page.change(unit=3, pitch=50000, height=50000)
-    page.until(f"{IDLE} && opened.options.unit === 3")
-    holds(page.text("command"), " --unit m " in page.text("command"))
-
-
-def try_copy(page):
-    """It is said whether the command was copied."""
-    page.value("Object.defineProperty(navigator, 'clipboard', { value: { writeText: async (it) => { globalThis.clip = it; } } }); 0")
-    page.value("by('copy').click()")
-    page.until("by('copied').textContent === 'copied'")
-    same(page.value("clip"), page.text("command").strip(), "what was copied")
-    page.value("navigator.clipboard.writeText = async () => { throw new Error('denied'); }; by('copy').click()")
-    page.until("by('copied').textContent.startsWith('not copied')")
-    same(page.value("getSelection().toString().replace(/\\s+/g, ' ').trim()"), page.text("command").strip(), "what is marked then")
+    folded = "by('archive').checkVisibility() && !by('exposures').open"
+    page.change(printer="SL1S", height=50)
+    same([page.value(folded), page.text("exposed")], [True, ""], "the exposures of a printer")
+    page.change(height=100)
+    holds(page.text("exposed"), page.text("exposed").startswith("2 s is the exposure of Prusa Orange Tough"))
+    same(page.value(folded), False, "whether exposures for other layers are folded")
+    page.value("by('exposures').open = false")
+    page.change(printer="own")
+    holds("they are seen for another screen", page.value("['exposure', 'first_exposure', 'exposed'].every((id) => by(id).checkVisibility())"))
+    begin = "Exposures depend on the resin: take those of its data sheet."
+    for name, value, words in ((None, None, f"{begin} 2.2 s and 25 s for the first layers are placeholders, for no resin."),
+                               ("exposure", "3", f"{begin} 25 s for the first layers is a placeholder, for no resin."),
+                               ("first_exposure", "30", "")):
+        if name:
+            page.value(f"by('{name}').value = '{value}'; by('archive').dispatchEvent(new Event('change'))")
+        same(page.text("exposed"), words, f"what is said after {name}")
+    page.change(printer="SL1")
+    page.load(is_kept=True)
+    same(page.value("[by('printer').value, by('exposures').open]"), ["SL1", True], "whether exposures of an earlier visit are seen")
 
 
 def try_latest(page):
@@ -276,7 +249,7 @@ def try_pictures(page):
     same(page.in_worker(script("pictures")), [], "what is wrong with pictures")
 
 
-def try_all(page, program):
+def try_all(page):
     try_latest(page)
     try_pictures(page)
     try_buttons(page)
@@ -285,5 +258,4 @@ def try_all(page, program):
     try_keyboard(page)
     try_colours(page)
     try_kept(page)
-    try_command(page, program)
-    try_other_units(page, program)
+    try_exposures(page)

@@ -5,7 +5,7 @@ import os
 import archives
 import firefox
 import layers
-from common import DESK, Page, example, holds, same
+from common import DESK, IDLE, Page, example, holds, same
 
 # What lets the tests look into page and worker
 OPENED = [("'unsafe-inline' 'wasm-unsafe-eval'", "'unsafe-inline' 'unsafe-eval' 'wasm-unsafe-eval'"),
@@ -28,7 +28,11 @@ def opened_up(path, room):
 def try_keys(page):
     page.load()
     page.set(100, 100)
-    page.take(example("bracket"))
+    page.browser.key("Tab")
+    same(page.value("document.activeElement.id"), "file", "what the first Tab comes to")
+    page.browser.choose_in_window(lambda: page.browser.key("Enter"), example("bracket"))
+    page.until(IDLE)
+    same([page.text("name"), page.value("document.activeElement.id")], ["bracket.stl", "image"], "the part, and where the keys go on")
     k = page.k()
     for key, wanted in (("ArrowUp", k + 1), ("ArrowRight", k + 2), ("ArrowLeft", k + 1)):
         page.browser.key(key)

@@ -8,7 +8,8 @@ from common import IDLE, PHONE, example, same, script
 # The windows of people, and the same at 200 %: half as wide and high, with two dots for each pixel along a side
 WINDOWS = {"desk": ((1440, 900), 1), "laptop": ((1024, 700), 1), "phone": (PHONE, 1),
            "desk_200": ((720, 450), 2), "laptop_200": ((512, 350), 2), "phone_200": ((195, 422), 2)}
-STATES = 8
+STATES = 12
+DENIED = "Object.defineProperty(navigator, 'clipboard', { configurable: true, value: undefined }); 0"
 
 
 def look(page, folder, name):
@@ -35,8 +36,8 @@ def other_kind(room):
 
 
 def try_states(page, room, folder, name):
-    """The empty page, a part, a part on a printer's screen, on another, below it the rest of the page, saving with a warning, a fault,
-    a file that is no STL."""
+    """The empty page, a part, a file that is dragged over it, a part on a printer's screen, with exposures for other layers, with a
+    copy that failed, on another screen, below it the rest of the page, saving with a warning, stopped, a fault, a file that is no STL."""
     look(page, folder, f"{name}_empty")
     page.set(50, 50)
     page.take(example("supported"))
@@ -44,10 +45,15 @@ def try_states(page, room, folder, name):
     page.value("go(150)")
     page.k()
     look(page, folder, f"{name}_part")
+    page.browser.drag([example("supported")], *page.middle("#image"))
+    look(page, folder, f"{name}_dragging")
+    page.browser.drag([example("supported")], *page.middle("#image"), kinds=["drop"])
+    page.until(IDLE)
     page.change(printer="SL1S")
     page.until(f"{IDLE} && opened.columns === 1620")
     page.k()
     look(page, folder, f"{name}_printer")
+    try_words(page, folder, name)
     page.change(printer="own", columns=11520, rows=5120, width="19", depth="24")
     page.until(f"{IDLE} && opened.columns === 11520")
     page.k()
@@ -59,11 +65,27 @@ def try_states(page, room, folder, name):
                "by('busy_words').textContent = 'Saving supported.sl1';"
                "warn('A shell is inside out somewhere: 2.376 ml by positive, 6.556 ml by nonzero; look at the layers.')")
     look(page, folder, f"{name}_saving")
-    page.value("end_wait()")
+    page.value("end_wait(); by('stop').click()")
+    look(page, folder, f"{name}_stopped")
     page.take(broken(room))
     look(page, folder, f"{name}_fault")
     page.take(other_kind(room))
     look(page, folder, f"{name}_kind")
+
+
+def try_words(page, folder, name):
+    """What is said of an exposure, and of a copy that failed."""
+    page.change(height=100)
+    page.until(f"{IDLE} && opened.options.layer === 100")
+    page.k()
+    page.value("by('exposed').scrollIntoView({ block: 'center' })")
+    look(page, folder, f"{name}_exposure")
+    page.value(DENIED)
+    page.value("by('copy').scrollIntoView({ block: 'center' }); by('copy').click()")
+    page.until("by('copied').textContent")
+    look(page, folder, f"{name}_not_copied")
+    page.value("getSelection().removeAllRanges(); document.querySelector('aside').scrollTop = 0; scrollTo(0, 0)")
+    page.change(height=50)
 
 
 def try_all(page, room, folder):

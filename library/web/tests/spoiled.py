@@ -2,7 +2,6 @@
 
 import os
 import random
-import re
 from concurrent.futures import ThreadPoolExecutor
 
 from archives import MOMENT, fill, ran_command, same_archive
@@ -12,7 +11,6 @@ from files import binary_of, facets_of
 EACH = 100  # files of each kind
 SCREEN = {"printer": "own", "columns": 300, "rows": 150, "width": "150", "depth": "150", "height": 1500}
 WORDS = ["--canvas", "300x150", "--pitch", "150", "--layer", "1500"]
-CUT = re.compile(r"the part is no text, and no whole binary STL: its header counts ([\d,]+) facets, which take ([\d,]+) bytes")
 
 
 def changed(draw, data):
@@ -65,17 +63,9 @@ def command(program, path):
 
 
 def same_refusal(page, path, line, status):
-    """The page has the command's line. Of a file that was cut it has the line of the text, and says the same in a hint."""
-    cut = CUT.match(line)
-    if cut:
-        told = page.value("by('hints').querySelector('details').textContent")
-        holds(f"{told} tells of {cut[1]} facets and {cut[2]} bytes", f"{cut[1]} facets, which take {cut[2]} bytes" in told)
-    elif "no pixel is lit" in line:
-        page.value("by('save_archive').click()")
-        page.until("by('warnings').textContent.includes('is not saved: no pixel is lit')")
-    else:
-        same(page.text("fault_line"), line, f"the line of {path}")
-        same(page.text("fault_head"), f"{os.path.basename(path)} is refused, status {status}", f"the status of {path}")
+    """The page has the command's line and status."""
+    same(page.text("fault_line"), line, f"the line of {path}")
+    same(page.text("fault_head"), f"{os.path.basename(path)} is refused, status {status}", f"the status of {path}")
 
 
 def try_all(page, room, program):
