@@ -1,5 +1,5 @@
 """The library, if it is built, answers in C, C++ and Python what the program answers (library/test, which
-runs calls.c, hostile.c, layers.c with checks.h and failing.h, and meshes.py), in no more memory than docs/embedding.md
+runs calls.c, hostile.c, layers.c, threads.c, and meshes.py, binaries.py and screens.py), in no more memory than docs/embedding.md
 says. library/build makes the same bytes of the same proved library in any folder."""
 
 import os

@@ -87,7 +87,7 @@ BELIEVED = [
     Believed("believe-options", "open_file", "stlslice_c", ["open_file"], ["IsSessionOf", "IsOpenFault"], "",
              "This is opening as C has it. The numbers of the options stand for a unit, a rule and a place, or for none: then the "
              "status is 1. If the file has a session, that is put into the handle and its counts into the shape. Else both stay, "
-             "and the line has the fault's text, or that of the status if memory ran out."),
+             "and the line has the fault's text, or that of the status."),
     Believed("believe-mask", "ask_mask", "stlslice_c", ["ask_mask"], [], "",
              "This is the image of one layer, behind the pointers of C, which `IsMaskCall` adds. The handle has an opened mesh, or "
              "none. With a mesh, the image of layer k is put into the buffer, if that is large enough. Else only the size that it "
