@@ -167,7 +167,8 @@ stlslice_status stlslice_open_mesh(const int32_t *points, size_t point_count, co
  * filled. */
 stlslice_status stlslice_mask(const stlslice_mesh *mesh, uint32_t k, uint8_t *image, size_t image_room, size_t *image_size);
 
-/* The images of the layers 8 s to 8 s + 7, as far as there are, one after the other. This is faster than one by one. */
+/* The images of the layers 8 s to 8 s + 7, as far as there are, one after the other. This is faster than one by one if stripes
+ * are asked for in any other order than from the lowest up. */
 stlslice_status stlslice_stripe(const stlslice_mesh *mesh, uint64_t s, uint8_t *images, size_t images_room,
                                 size_t *images_size);
 

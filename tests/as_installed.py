@@ -12,6 +12,14 @@ SHARE = os.path.join(os.path.dirname(installed()), "share", "stlslice")
 TINY, TINY_PART = ["--canvas", "8x1", "--pitch", "100", "--layer", "500"], text(box((0, 0, 0), ("0.8", "0.1", 1)))
 # a cube without a facet, and the program's line of it
 OPEN, OPEN_LINE = text(box((0, 0, 0), (1, 1, 1))[1:]), "stlslice: open edge 0 0 0 to 0 1000 0 there 0 back 1"
+# Runs a command, and prints its seconds of a processor and its KiB of memory: as a small process of its own, since a process
+# counts the memory of the one that it was forked from.
+MEASURED = """import resource, subprocess, sys
+status = subprocess.run(sys.argv[1:]).returncode
+used = resource.getrusage(resource.RUSAGE_CHILDREN)
+print(used.ru_utime + used.ru_stime, used.ru_maxrss)
+sys.exit(status)
+"""
 
 sys.path.insert(0, SHARE)
 

@@ -1,9 +1,7 @@
 #!/usr/bin/env -S python3 -B
-"""Plants thirteen wrong bodies, one at a time, in a copy of the sources, and shows that the test named for each fails there; with
-words, those whose names hold one of them. Of what a lock is held for, that workers run at the same time, that memory suffices and
-that a device works, tests alone speak. Each takes one to five minutes, since `rt try --test` builds the tests, so this is no part
-of `make test`. In a copy as it is, the tests have to pass."""
-
+"""Plants fifteen wrong bodies, one at a time, in a copy of the sources, and shows that the test named for each fails there; with
+words, those whose names hold one of them. Tests alone speak of what a lock is held for, of workers at the same time, of memory and
+of devices. Each takes some minutes, so this is no part of `make test`. In a copy as it is, the tests have to pass."""
 import os
 import re
 import shutil
@@ -12,9 +10,8 @@ import sys
 import tempfile
 
 ROOT = os.path.dirname(os.path.dirname(os.path.abspath(__file__)))
-POOL, COUNTED = "layer_pool/src/pool.rt", "devices/src/counted.rt"
+POOL, COUNTED, LOCK = "layer_pool/src/pool.rt", "devices/src/counted.rt", "= shared.book.lock(shared.rt);"
 HELD, BYTES = "slicing_tests pool::one_worker_is_held", "slicing_tests byte_writers::a_byte_at_a_time_from_reader_to_writer"
-LOCK = "= shared.book.lock(shared.rt);"
 COUNT = r"Ok\(count\) => Ok\(count\),(\s+Err\(_\) => Err\(self\.fail\(\)\),\s+\}\s+\}\s+"
 FAIL = r"Ok(_) => Err(self.fail()),\1"
 # Of each: its name, the file, a pattern of what stands there once, what is planted, and the crate and the test that fails.
@@ -28,6 +25,10 @@ BAD = [
      rf"let mut book {LOCK} \1book", f"{HELD}_with_its_piece_while_the_other_works"),
     ("a pool that holds the lock while it slices", POOL, r"if let Ok\(piece\) = (slicer\.slice\(stripe\))",
      rf"let sliced = {{ let _book {LOCK} \1 }}; if let Ok(piece) = sliced", f"{HELD}_in_a_slice_while_the_other_works"),
+    ("workers that make nothing", POOL, r"if let Ok\(piece\) = (slicer\.slice\(stripe\)) \{",
+     r"if let (Ok(piece), false) = (\1, true) {", f"{HELD}_with_its_piece_while_the_other_works"),
+    ("a build that always answers out of memory", POOL, r"(book\.into_inner\(\)\.into_book\(\)\.finish_own\(\))",
+     r"let _build = \1; Err(AllocError)", f"{HELD}_while_the_other_works"),
     ("a finish that leaves stripes empty", "build_book/src/places.rt", r"for s in 0(\.\.job\.stripes\(\) \{\s+late \+=)",
      r"for s in 1\1", "slicing_tests book::two_cubes_by_each_rule"),
     ("a probe that gives one ray twice", "mesh_weld/src/probing.rt", r"(crossings\(solid, centre\), crossings)_along_y",
@@ -46,7 +47,6 @@ BAD = [
     ("a Counted that never flushes", COUNTED, r"self\.inner\.flush\(\)", "Ok::<(), Failed>(())",
      "run_tests device_runs::writers_with_little_room"),
 ]
-
 
 def passes(test, path=None, body=""):
     """Whether a test passes in a copy of the sources, where one file may have another body."""

@@ -123,13 +123,18 @@ class Names(Case):
 
 class KnownBad(Case):
     def test_each_body_can_be_planted_and_has_its_test(self):
-        same(len(known_bad.BAD), 13, "wrong bodies")
+        same(len(known_bad.BAD), 15, "wrong bodies")
         for name, path, old, new, fails in known_bad.BAD:
             text = text_of(f"crates/{path}")
             planted, count = re.subn(old, new, text)
             same((count, planted == text), (1, False), f"{name}: how often its text is in {path}; is it the same then")
             crate, module, test = re.split(" |::", fails)
             assert f"#[test]\nfn {test}(" in text_of(f"crates/{crate}/src/{module}.rt"), f"{name}: there is no {fails}"
+
+    def test_there_are_at_most_200_edits(self):
+        edits = glob.glob(f"{ROOT}/crates/*/must-fail/*")
+        same([it for it in edits if not it.endswith(".edit")], [], "files that are no edits")
+        assert 0 < len(edits) <= 200, f"{len(edits)} edits"
 
 
 PAGE = text_of("docs/proving.md")

@@ -55,3 +55,5 @@ class Library(Case):
         same((ran.status, ran.out.splitlines()[-1:]), (0, ["passed"]), "status and last line of library/test")
         if "numpy is missing" in ran.out:
             self.leave_out("numpy is missing (Debian: python3-numpy): the Python of docs/embedding.md")
+        if "ThreadSanitizer is missing" in ran.out:
+            self.leave_out("ThreadSanitizer is missing (Debian: libtsan2): 64 threads on one mesh were not watched")

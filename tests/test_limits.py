@@ -40,8 +40,7 @@ SPELLED = {
         ("docs/formats.md", "At most {} columns and rows,"), ("man/stlslice.1", "most {}, {} and"),
         ("include/stlslice.h", "at most {}, {} and"), ("docs/refused.md", "{} columns and rows"),
         ("SECURITY.md", "The grid may have {} x {} x"), ("README.md", "{} pixels a side"),
-        ("library/web/preview.html", 'id="columns" value="2560" min="1" max="{}"',
-         'id="rows" value="1620" min="1" max="{}"'), ("crates/test_meshes/src/published.rt", "MOST_COLUMNS: u32 = {};")],
+        ("commands/stlslice_commands/page.py", "MOST = {}  #"), ("crates/test_meshes/src/published.rt", "MOST_COLUMNS: u32 = {};")],
     "geometry::LAYER_LIMIT": [
         ("--help", " and {}), and its least"), ("docs/usage.md", " and {}; the least corner"),
         ("docs/formats.md", "rows, {} layers."), ("man/stlslice.1", " and {}, and its least corner"),

@@ -10,12 +10,14 @@ import struct
 import sys
 import traceback
 import zipfile
+from decimal import Decimal
 
-from as_installed import PAGE, PNGS, SHARE, SL1
+from as_installed import MEASURED, PAGE, PNGS, SL1
 from common import BRACKET, Case, bytes_of, example, name_of, needs, same
 from measure import exit_status
 from parts import FACES, SIDES, binary, box, formats, lines, obj, points, text
 
+import stlslice
 from stlslice_commands import faults, meshes, sl1, slicing  # noqa: F401, so that no run has to read it
 
 SCREEN = ["--canvas", "160x120", "--pitch", "250", "--layer", "500"]
@@ -44,6 +46,7 @@ def holding(number, components):
 
 MESH = mesh(LOW, HIGH)
 BOX = f'<object id="1">{MESH}</object>'
+VERTEX = '<vertex x="1" y="2" z="3"/>'
 
 
 def model(objects=BOX, items='<item objectid="1"/>', words="", head=""):
@@ -98,11 +101,20 @@ class Objs(Case):
                 volume = 6 * (high[0] - low[0]) * (high[1] - low[1]) * (high[2] - low[2])
                 same(found, (low, high, 12, volume), unit)
 
+    def test_numbers_are_rounded_as_by_the_module(self):
+        draw = random.Random(9)
+        for unit in ("mm", "cm", "m", "inch"):
+            words = [f"{draw.choice(('', '-'))}{draw.randrange(100)}.{draw.randrange(10 ** 8):08}{draw.choice(('', '5'))}"
+                     for _ in range(294)] + ["0.0005", "-0.0005", "0.00049999", "-1.0005", "5e-4", "-5e-8"]
+            rows = [words[k:k + 3] for k in range(0, len(words), 3)]
+            wanted = stlslice.micrometres([list(map(Decimal, row)) for row in rows], unit)
+            same(list(read_obj(lines("v %s %s %s\n", rows), unit)[0]), [it for row in wanted for it in row], unit)
+
     def test_each_form_of_a_face(self):
         square = ("v 0 0 0\nv 1 0 0 1\nv 1 1 0 0.5 0.5 0.5 # a colour\n\n  v 0 1 0\r\n"
                   "vt 0 0\nvn 0 0 1\ng a\nusemtl b\ns off\no c\n")
         for face in ("1 2 3 4", "1/1 2/1 3/1 4/1", "1//1 2//1 3//1 4//1", "1/1/1 2/1/1 3/1/1 4/1/1", "-4 -3 -2 -1",
-                     "-4/-1/-1 2 3/1 -1//-1", "1 2 \\\n 3 4", "1 2 3 4 # 5"):
+                     "-4/-1/-1 2 3/1 -1//-1", "1 2 \\\n 3 4", "1 2 3 4 # 5", "1 2 3 4\n\\\n"):
             same(list(read_obj(f"{square}f {face}")[1]), [0, 1, 2, 0, 2, 3], face)
         same(list(read_obj(f"{square}f -2 -1 -4\nv 5 5 5\nf -1 1 2\nl 1 2\np 1")[1]), [2, 3, 0, 4, 0, 1], "from the end")
 
@@ -131,6 +143,8 @@ class Objs(Case):
                            ("v 0 0 " + "0" * 256, "1 of the OBJ: '00000000000000000000' is too long"),
                            ("v 0 0 0\nf 1 1", "2 of the OBJ: a face has fewer than three corners"),
                            ("#" + 2 ** 20 * " ", "1 of the OBJ has more than 1,048,576 bytes"),
+                           (2 ** 18 * "v \\\n" + "\n", "262,145 of the OBJ has more than 1,048,576 bytes"),
+                           ("v 0 0 0\nf" + 10_001 * " 1", "2 of the OBJ: a face has more than 10,000 corners"),
                            *((f"v 0 0 0\nf 1 1 {at}", f"2 of the OBJ: there is no point '{at}'")
                              for at in ("2", "0", "-2", "+1", "1.5", "x", "1_0", "1/x", "\u0661"))):
             same(refusal(read_obj, body), f"Refused: line {line}", body[:40])
@@ -184,6 +198,8 @@ class ThreeMfs(Case):
 
         for body, line in (
                 (changed('v1="0"', 'v1="8"'), "object 1 has a triangle with a point that it hasn't"),
+                (changed("<vertices>", f"<vertices>{129 * VERTEX}"),
+                 "object 1 has 137 points, more than its triangles can have"),
                 (changed(' z="0"', ""), "z is missing"), (changed('x="10"', 'x="nan"'), "'nan' is not a number"),
                 *((changed('v1="0"', f'v1="{at}"'), "a triangle has an index that is no number")
                   for at in ("1_0", "+1", "-1", "\u0661", "1 2", "", " ")),
@@ -209,23 +225,6 @@ class ThreeMfs(Case):
             same(refusal(read_3mf, body), f"Refused: the 3MF can't be read: {line}", line)
 
 
-# Of memory what this process took, and not the one that it was forked from.
-HOSTILE = """import json, re, sys, time
-sys.path.insert(0, sys.argv[1])
-from stlslice_commands import faults, meshes
-with open(sys.argv[2], "rb") as file:
-    begin = time.process_time()
-    try:
-        meshes.read_3mf(file.read(), 1 << 20)
-        told = None
-    except (faults.Refused, meshes.NotTaken) as fault:
-        told = str(fault)
-with open("/proc/self/status") as file:
-    memory = int(re.search(r"VmHWM:\\s+(\\d+) kB", file.read())[1])
-print(json.dumps([told, time.process_time() - begin, memory]))
-"""
-
-
 def each_holding(count, last, transform=meshes.IDENTITY):
     """Objects that each hold the one before, so many times."""
     return "".join(holding(k, count * placed(transform, k - 1, "component")) for k in range(2, last + 1))
@@ -246,11 +245,16 @@ def hostile_models():
                           ("spaces beyond", " " * (1 << 25))):
         yield name, model().replace("<resources>", "<resources>" + filling)
     yield "items", model(items=500_000 * '<item objectid="1"/>')
+    for count, items in ((150_000, 1), (50_000, 1000)):
+        cloud = f"<mesh><vertices>{count * VERTEX}</vertices><triangles/></mesh>"
+        yield f"{count} points", model(f'<object id="1">{cloud}</object>', items * '<item objectid="1"/>')
 
 
 def hostile_files():
     for name, body in hostile_models():
         yield name, packed(body)
+    yield "backslashes", b"v 0 0 0\n" + b"\\\n" * 400_000
+    yield "a face", b"v 0 0 0\nf" + b" 1" * 500_000
     yield "entries", zip_of([("_rels/.rels", RELATIONSHIPS), *((str(k), "") for k in range(60_000))])
     whole = packed(model())
     at = whole.rfind(b"PK\1\2", 0, whole.rfind(b"PK\5\6"))
@@ -301,9 +305,10 @@ def forked(room, *words):
 class HostileFiles(Case):
     def test_they_take_at_most_40_megabytes_and_two_seconds(self):
         for name, body in hostile_files():
-            told = self.room.out(sys.executable, "-c", HOSTILE, SHARE, self.room.put("part.3mf", body))
-            told, seconds, memory = json.loads(told)
-            assert told or name in ("spaces", "long numbers of transforms"), f"{name} is taken"
+            words = [SL1, *SCREEN, "--workers", "1", self.room.put("part", body), self.room.file("out.sl1")]
+            ran = self.room.run(sys.executable, "-c", MEASURED, *words)
+            seconds, memory = map(float, ran.out.split()[-2:])
+            assert ran.status in (1, 3) and ran.fault.count("\n") == 1 or name == "spaces", f"{name}: {ran}"
             assert seconds < 2 and memory < 40 << 10, f"{name}: {seconds} s, {memory} KiB"
 
     def test_mutated_files_are_taken_or_refused_in_one_line(self):

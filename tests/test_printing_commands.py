@@ -12,7 +12,7 @@ import subprocess
 import sys
 import zipfile
 
-from as_installed import PAGE, PNGS, SHARE, SL1, wrong_words
+from as_installed import MEASURED, PAGE, PNGS, SHARE, SL1, wrong_words
 from common import Case, bytes_of, example, name_of, same
 from parts import SHORT_FACET, archived, binary, box, centred, formats, lit, mirrored, pixels_of_png, text, turned_over
 from terminal import shown_on_a_terminal
@@ -361,16 +361,12 @@ class Commands(Case):
         assert self.images(*SCREEN, "--unit", "inch", "--shells", small) == self.centred(SHAPE), "inches: pixels differ"
 
     def test_too_many_facets_are_told(self):
-        said = self.refusal(3, *SCREEN, self.room.put("part.stl", b"solid\n" + SHORT_FACET * 1_048_577))
-        assert re.fullmatch(r"stlslice: too many facets at byte \d+\nstlslice-sl1: a mesh has at most 1,048,576 facets; "
-                            r"--shells slices a larger part shell by shell, if it has several\n", said), said
-
-
-MEASURED = """import resource, subprocess, sys
-status = subprocess.run(sys.argv[1:]).returncode
-print(resource.getrusage(resource.RUSAGE_CHILDREN).ru_maxrss)
-sys.exit(status)
-"""
+        count = 1_048_577
+        for body, place in ((b"solid\n" + SHORT_FACET * count, r" at byte \d+"),
+                            (bytes(80) + count.to_bytes(4, "little") + bytes(50 * count), f": {count}")):
+            said = self.refusal(3, *SCREEN, self.room.put("part.stl", body))
+            assert re.fullmatch(rf"stlslice: too many facets{place}\nstlslice-sl1: a mesh has at most 1,048,576 facets; "
+                                r"--shells slices a larger part shell by shell, if it has several\n", said), said
 
 
 class Terminals(Case):
@@ -409,6 +405,5 @@ class Terminals(Case):
         grid = [box((x, y, 0), (x + 0.5, y + 0.5, 0.1)) for x in range(73) for y in range(73)]
         part = self.room.put("part.stl", binary([facet for facets in grid for facet in facets]))
         words = [SL1, "--canvas", "11520x5120", "--pitch", "19x24", "--layer", "50", part, self.room.file("out")]
-        # asked by a small process, since a process counts the memory of the one that it was forked from
         most = int(self.room.done(sys.executable, "-c", MEASURED, *words).out.split()[-1])
         assert 10_000 < most < 60_000 + 0.150 * 12 * 73 * 73, f"{most} KiB"

@@ -337,17 +337,41 @@ class Parallel(Slabs):
         self.room.refused(9, f"%s: {tool} --box ended with status 9 and no line", *words, cwd=here)
         same(self.room.files(), ["slicer"], "files")
 
-    def test_a_parallel_that_does_not_end_is_killed(self):
-        """A stand-in, which ignores what would end it."""
-        room, env = self.room, {"PATH": f"{self.room.tools()}:/usr/bin:/bin"}
-        room.put("tools/parallel", f"#!/bin/sh\ntrap '' TERM\necho $$ > '{room.file('pid')}'\nexec sleep 600\n", 0o755)
-        words = [sys.executable, SLABS, "-P", PROGRAM, BRACKET, "out"]
-        with subprocess.Popen(words, cwd=room.path, env=room.with_env(**env), stderr=subprocess.PIPE) as child:
+    def stopped(self, parallel="", tool=PROGRAM, **env):
+        """A signal ends a run, and a stand-in for GNU parallel or the slicer, whose number is in the file pid."""
+        room, path = self.room, f"{self.room.tools()}:/usr/bin:/bin"
+        room.put("tools/parallel", f"#!/bin/sh\n{parallel}\nexec sleep 600\n", 0o755)
+        files, words = {*room.files(), "pid"}, [sys.executable, SLABS, "-P", tool, BRACKET, "out"]
+        with subprocess.Popen(words, cwd=room.path, env=room.with_env(PATH=path, **env), stderr=subprocess.PIPE) as child:
             waited(lambda: os.path.exists(room.file("pid")) and room.get("pid").endswith(b"\n"))
             child.send_signal(signal.SIGTERM)
             same((child.wait(60), child.stderr.read()), (128 + signal.SIGTERM, b""), "status and faults")
         waited(lambda: has_ended(int(room.get("pid"))), 5)
-        same(room.files(), ["pid", "tools"], "files")
+        same({*room.files()}, files, "files")
+
+    def test_a_parallel_that_does_not_end_is_killed(self):
+        """One that ignores what would end it."""
+        self.stopped(f"trap '' TERM\necho $$ > '{self.room.file('pid')}'")
+
+    def test_a_signal_right_after_parallel_began_ends_it(self):
+        self.room.put("sitecustomize.py", "import os, signal, subprocess\nmade = subprocess.Popen._execute_child\n"
+                      "def execute(self, words, *more):\n    made(self, words, *more)\n    if words[0].endswith('parallel'):\n"
+                      "        open('pid', 'w').write(f'{self.pid}\\n')\n        os.kill(os.getpid(), signal.SIGTERM)\n"
+                      "subprocess.Popen._execute_child = execute\n")
+        self.stopped(PYTHONPATH=self.room.path)
+
+    def test_a_slicer_that_is_asked_for_the_box_ends_too(self):
+        for more in ("", "exec >&-"):
+            tool = self.room.put("slicer", f"#!/bin/sh\n{more}\necho $$ > pid\nexec sleep 600\n", 0o755)
+            self.stopped(tool=tool)
+            os.remove(self.room.file("pid"))
+
+    def test_what_cannot_be_started_is_told(self):
+        env = self.room.with_env(PATH=f"{self.room.tools()}:{os.environ['PATH']}")
+        other = self.room.put("tools/parallel", "no program", 0o755)
+        for tool, name in ((PROGRAM, "GNU parallel"), (other, other)):
+            self.room.refused(1, f"%s: {name} can't be started: Exec format error", SLABS, "-P", tool, BRACKET, "out",
+                              cwd=self.room.path, env=env)
 
     def test_settings_change_nothing(self):
         """Those of GNU parallel that a user may have."""

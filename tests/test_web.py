@@ -9,8 +9,10 @@ from common import PROGRAM, ROOT, Case, is_old, library, needs, same, skip, text
 
 PAGE = "build/web/preview.html"
 OF_C = ["library/web/heap.c", "library/web/runtime.c"]
-OF_SCRIPT = [f"library/web/{name}" for name in sorted(os.listdir(os.path.join(ROOT, "library", "web"))) if name.endswith(".js")]
-LONGEST = 300  # lines of a file of the page
+OF_PAGE = [f"{folder}/{name}" for folder in ("library/web", "library/web/tests") for name in sorted(os.listdir(os.path.join(ROOT, folder)))
+           if name.endswith((".js", ".py", ".html", ".css"))]
+OF_SCRIPT = [name for name in OF_PAGE if name.endswith(".js") and "/tests/" not in name]
+LONGEST = 300  # lines of a file of the page and its tests
 
 
 class Web(Case):
@@ -22,7 +24,16 @@ class Web(Case):
         for number, names in zip((*told, heap), (OF_C, OF_SCRIPT, ["library/web/heap.c"])):
             lines = sum(text_of(name).count("\n") for name in names)
             assert abs(int(number) - lines) < 10, f"{number} lines are told, and {names} have {lines}"
-        assert all(text_of(name).count("\n") <= LONGEST for name in OF_SCRIPT), "a long script"
+        same([name for name in OF_PAGE if text_of(name).count("\n") > LONGEST], [], "long files")
+
+    def test_a_colour_stands_in_one_place(self):
+        """Among the variables at the beginning of style.css."""
+        named = r"#(?:[0-9a-f]{3,4}){1,2}\b|\b(?:rgb|hsl)a?\("
+        texts = {name: text_of(name) for name in OF_PAGE if "/tests/" not in name and not name.endswith(".py")}
+        style, found = "library/web/style.css", lambda text: re.findall(named, text, re.I)
+        variables, texts[style] = re.match(r"(?s)(:root \{.*?\n\}\n@media [^\n]*\{\n.*?\n\}\n)(.*)", texts[style]).groups()
+        assert len(found(variables)) > 30, "few colours"
+        same({name: found(text) for name, text in texts.items() if found(text)}, {}, "colours elsewhere")
 
     @needs("chromium")
     def test_the_page_shows_what_program_and_library_return(self):

@@ -3,12 +3,10 @@
 
     check.py [REV]
 
-The change is all that differs from where HEAD left REV (HEAD). `rt ci` proves each changed crate from nothing, with its edits and
-tests, and the crates above if they see the change: anything but a function's body, or a proof that none of them names. What
-passes is kept for the gate. The tests of the crate above with the fewest libraries run too, without a proof, and so do those in
-tests/ that name a changed file. What ships is built if a source of it changed. Files that no step tries are listed.
+The change is all that differs from where HEAD left REV (HEAD). `rt ci` proves each changed crate, with its edits and tests, and
+the crates above if they see the change: anything but a function's body, or a proof that none of them names. The tests of the
+crate above with the fewest libraries run too, unproved, and so do those in tests/ that name a changed file, with what ships.
 """
-
 import os
 import re
 import subprocess
@@ -41,7 +39,8 @@ def of_crates(files, base):
     """The steps for the crates that have these files: what each is, its command and its folder."""
     rows = [line.partition(":") for line in text_of("crates.txt").splitlines() if not line.startswith("#")]
     below = {head.split()[0]: tail.split() for head, _, tail in rows}
-    changed = [it for it in below if any(file.startswith(f"crates/{it}/") for file in files)]
+    of_all = {"crates.txt", "HANDLES"} & {*files}
+    changed = [it for it in below if of_all or any(file.startswith(f"crates/{it}/") for file in files)]
     seen = {it.split("/")[1] for it in files if re.match(r"crates/\w+/(src|specs|proofs)/", it) and is_seen_from_above(it, base)}
     names = [it for it in below if it in changed or seen & {*below[it]}]
     print(f"changed crates: {' '.join(changed) or 'none'}; with those above that see the change: {' '.join(names) or 'none'}")
@@ -49,7 +48,7 @@ def of_crates(files, base):
     tests = [it for it in below if it.endswith("_tests") and it not in names and bodies & {*below[it]}]
     tests.sort(key=lambda it: len(below[it]))
     return ([(f"proofs, edits and tests of {' '.join(names)}", ["rt", "ci", *names], "")] * bool(names)
-            + [(f"tests of {it}", ["rt", "try", "--test"], f"crates/{it}") for it in tests[:1]] + [("make", ["make"], "")] * bool(names))
+            + [(f"tests of {it}", ["rt", "try", "--test"], f"crates/{it}") for it in tests[:1]])
 
 
 def tests_of(file):
@@ -67,6 +66,7 @@ def main():
     named = {it: tests_of(it) for it in sorted({*told.splitlines()})}
     tests, failed = sorted(set().union(*named.values())), []
     steps = of_crates(named, base) + [SHIPS] * any(it.startswith(("library/", "python/", "include/")) for it in named)
+    steps += [("make", ["make"], "")] * (bool(tests) and any(it.startswith("crates/") for it in named))
     steps += [("tests that name a changed file", ["tests/run", "build/stlslice", *tests], "")] * bool(tests)
     print(*(f"no step tries {it}\n" for it in named if not named[it] and not it.startswith("crates/")), sep="", end="")
     for what, words, folder in steps:

@@ -3,8 +3,7 @@
 and refused_otherwise.txt, beside it, does not say why.
 
     rt must-fail | tools/refused.py [--list] [FILE..]     at the top; --list: of each edit the function that is not proved, the
-                                                          edit's name and the goal, and whether the name is another function's
-"""
+                                                          edit's name and the goal, and whether the name is another function's"""
 import fileinput
 import re
 import sys
@@ -25,7 +24,8 @@ def function_at(file, row):
 
 
 otherwise = open(f"{sys.path[0]}/refused_otherwise.txt", encoding="utf-8").read()
-failed, told = [], TOLD.findall("".join(fileinput.input([it for it in sys.argv[1:] if it != "--list"])))
+text = "".join(fileinput.input([it for it in sys.argv[1:] if it != "--list"]))
+failed, told = re.findall(r"rt: (crates/\S+: BAD EDIT.*)", text), TOLD.findall(text)
 for crate, edit, is_refused, said in told:
     answer, code = ANSWER.match(said), CODE.match(said)
     goal = answer[2] if answer else [*re.findall(r"\(`([^`]+)", code[3]), code[3]][0] if code else said

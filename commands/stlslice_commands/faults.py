@@ -8,10 +8,8 @@ import shutil
 import signal
 import sys
 import time
-from functools import partial
 
-# Control characters, and what Python has for bytes of a name that are no UTF-8.
-UNSHOWN = re.compile("[\0-\x1f\x7f-\x9f\udc80-\udcff]")
+UNSHOWN = re.compile("[\0-\x1f\x7f-\x9f\udc80-\udcff]")  # control characters, and bytes of a name that are no UTF-8
 BLOCK = 1 << 20
 UNDONE = []  # what is called, the last first, if a signal ends the command
 
@@ -22,6 +20,11 @@ class Refused(Exception):
     def __init__(self, line, status=1, told=""):
         super().__init__(line)
         self.line, self.status, self.told = line, status, told
+
+
+def refuse_if(is_wrong, line, status=1):
+    if is_wrong:
+        raise Refused(line, status)
 
 
 def shown(text):
@@ -49,14 +52,12 @@ def in_mm(lengths):
 def look_at_output(output, part):
     """Refuses an output that is there and no plain file, or is the part. The name - is standard output, which may be closed."""
     if output == "-":
-        if not sys.__stdout__:
-            raise Refused("standard output is closed")
+        refuse_if(not sys.__stdout__, "standard output is closed")
         return
-    if output.endswith("/") or os.path.islink(output) or os.path.exists(output) and not os.path.isfile(output):
-        raise Refused(f"{output} is no plain file")
+    is_other = output.endswith("/") or os.path.islink(output) or os.path.exists(output) and not os.path.isfile(output)
+    refuse_if(is_other, f"{output} is no plain file")
     with contextlib.suppress(OSError):  # of what isn't there
-        if os.path.samefile(output, 0 if part == "-" else part):
-            raise Refused(f"{output} is the part itself")
+        refuse_if(os.path.samefile(output, 0 if part == "-" else part), f"{output} is the part itself")
 
 
 @contextlib.contextmanager
@@ -74,21 +75,20 @@ def undone(undo):
 def aside(output):
     """A path that an output has until it is whole, and no other run takes. What is there when the block ends is removed."""
     path = f"{output}.{os.urandom(4).hex()}.part"
-    with undone(partial(remove, path)):
+
+    def remove():
+        with contextlib.suppress(OSError):
+            os.remove(path)
+        shutil.rmtree(path, ignore_errors=True)
+
+    with undone(remove):
         yield path
 
 
-def remove(path):
-    """Removes a file, or a folder with what it has, if it is there."""
-    with contextlib.suppress(OSError):
-        os.remove(path)
-    shutil.rmtree(path, ignore_errors=True)
-
-
 @contextlib.contextmanager
-def whole_file(output):
-    """A file of bytes, made aside. It has the output's name once the block has ended well; otherwise it is removed. With - it is
-    one without a name."""
+def whole_file(output, part=""):
+    """A file of bytes, made aside, that gets the output's name once the block has ended well. With - it has no name."""
+    look_at_output(output, part)
     if output == "-":
         import tempfile  # only here, since each start reads what it imports anew
         with named("TMPDIR"), named(tempfile.gettempdir()), tempfile.TemporaryFile() as file:
@@ -101,9 +101,8 @@ def whole_file(output):
 
 
 def finish(given, plain, file, layers, size, volume, **more):
-    """Writes the last line, when all of the output is made and before it has its name: if the line can't be written, what was
-    there before is left. With --json it has sizes in millimetres and the volume in millilitres. With - the bytes of the file, which
-    else may be None, go to standard output, and then the line to standard error."""
+    """Writes the last line before the output has its name: if it can't be written, what was there before is left. With - the bytes
+    of the file go to standard output, and then the line to standard error."""
     line = shown(f"{given.output}: {plain}")
     if given.json:
         import json  # only here, since each start reads what it imports anew

@@ -7,9 +7,8 @@ from functools import partial
 import stlslice
 
 from . import formats
-from .faults import Progress, Refused, answers, in_mm, named, say
+from .faults import Progress, Refused, answers, in_mm, named, refuse_if, say
 
-TOO_MANY = "too many facets"
 SHELLS = "a mesh has at most 1,048,576 facets; --shells slices a larger part shell by shell, if it has several"
 OPEN = 4  # the library's status if a mesh is open
 ONE_VOXEL = {"pitch": 1000, "layer": 1000, "grid": (1, 1, 1, 0, 0, 0)}
@@ -40,27 +39,29 @@ class Part:
             self.calls, self.box = [partial(stlslice.open, data, unit=given.unit)], partial(stlslice.box, data, given.unit)
 
     def open(self, **how):
-        """The meshes, opened as `how` says in the words of `stlslice.open`. If the part doesn't fit its canvas, a FitFault is
-        raised, and any other fault of the library ends the command with its line."""
+        """The meshes, opened as `how` says in the words of `stlslice.open`; none if the part doesn't fit its canvas."""
         return self.asked(*(partial(call, **how) for call in self.calls))
 
     def asked(self, *calls):
-        """What the library's calls return. Of open edges the least of all meshes is told, as if they were one."""
+        """What the library's calls return. A fault ends the command with its line; of open edges the least of all meshes is told,
+        as if they were one."""
         try:
             return answers(*calls, rank=lambda it: [int(word) for word in re.findall(r"-?\d+", str(it))]
                            if getattr(it, "status", 0) == OPEN else [1 << 31])
-        except (stlslice.FitFault, MemoryError):
+        except stlslice.FitFault:
+            return []
+        except MemoryError:
             raise
         except stlslice.Fault as fault:
             if str(fault) == "no facet is left" and not self.box().facets:
                 raise Refused("the part has no facets")
-            is_large = TOO_MANY in str(fault)
+            is_large = "too many facets" in str(fault)
             raise Refused(SHELLS if is_large and self.shells is False else None, 3 if is_large else fault.status, fault.line + "\n")
 
-    def refuse_unlit(self, rule, size):
+    def refuse_dark(self, areas, rule, size):
         or_unit = f", or its unit another than {self.unit}" if self.unit else ""
-        raise Refused(f"no pixel is lit by --rule {rule}: is the part inside out (try --rule nonzero){or_unit}? "
-                      f"It is {in_mm(size)} mm")
+        refuse_if(not any(areas), f"no pixel is lit by --rule {rule}: is the part inside out (try --rule nonzero){or_unit}? "
+                  f"It is {in_mm(size)} mm")
 
 
 def size_of(box):
@@ -69,21 +70,19 @@ def size_of(box):
 
 def box_of(points, triangles):
     """The box of the facets of arrays. They need not be closed."""
-    low, high = ([end((points[3 * it + k] for it in triangles), default=0) for k in range(3)] for end in (min, max))
+    used = set(triangles)
+    low, high = ([end((points[3 * it + k] for it in used), default=0) for k in range(3)] for end in (min, max))
     return stlslice.Box(len(triangles) // 3, low, high)
 
 
 def read(path):
     """The bytes of a file, or of standard input."""
-    if path != "-":
-        with named(path), open(path, "rb", buffering=0) as file:
-            return file.read()
-    if not sys.stdin:
-        raise Refused("standard input is closed")
-    if sys.stdin.isatty():
+    name, place = ("standard input", 0) if path == "-" else (path, path)
+    refuse_if(place == 0 and not sys.stdin, "standard input is closed")
+    if place == 0 and sys.stdin.isatty():
         say("a part is awaited on standard input")
-    with named("standard input"):
-        return sys.stdin.buffer.raw.read()
+    with named(name), open(place, "rb", buffering=0) as file:
+        return file.read()
 
 
 def kind_of(data):
@@ -104,10 +103,8 @@ def arrays_of(kind, data, given):
     """The points and triangles of an OBJ or a 3MF. Those of another format are refused, with the command that converts them."""
     name = "part." + kind.lower() if given.part == "-" else given.part
     advice = f"{'unpack' if kind in ('zip', 'gzip') else 'convert'} it: {formats.command_for(kind, name)}"
-    if kind not in ("OBJ", "3MF"):
-        raise Refused(f"the part is {kind}, not STL; {advice}", 3)
-    if kind == "3MF" and given.unit != "mm":
-        raise Refused("a 3MF has a unit of its own: leave out --unit", 2)
+    refuse_if(kind not in ("OBJ", "3MF"), f"the part is {kind}, not STL; {advice}", 3)
+    refuse_if(kind == "3MF" and given.unit != "mm", "a 3MF has a unit of its own: leave out --unit", 2)
     from . import meshes  # only here, since each start reads what it imports anew
     try:
         # of more facets the library takes no mesh, but shells of a larger one

@@ -3,7 +3,7 @@
 import os
 
 from . import words
-from .faults import Refused, aside, command, named
+from .faults import aside, command, named, refuse_if
 
 ABOUT = """Slices a part into a folder of PNGs, one a layer: NAME/00000.png is the lowest. The part stands in the middle
 of the screen, white on black; one that doesn't fit is refused. The folder must be new or empty; it is made aside and
@@ -14,14 +14,13 @@ moved into place when it is whole."""
 def run():
     given = words.read(words.parser(ABOUT, "the folder to make"))
     folder = given.output = given.output.rstrip("/" + os.sep) or "/"
-    if folder == "-":
-        raise Refused("a folder can't be standard output; stlslice --png writes all layers there, and ./- is a folder's name")
-    if os.path.realpath(folder) == os.path.realpath(os.curdir):
-        raise Refused(f"{folder} is the current folder, which can't be made")
-    if os.path.lexists(folder) and not (os.path.isdir(folder) and not os.listdir(folder)):
-        raise Refused(f"{folder} is there already")
-    if os.path.islink(folder) or os.path.ismount(folder):
-        raise Refused(f"{folder} is a link or a mount point, in whose place no folder can be moved")
+    line = "a folder can't be standard output; stlslice --png writes all layers there, and ./- is a folder's name"
+    refuse_if(folder == "-", line)
+    refuse_if(os.path.realpath(folder) == os.path.realpath(os.curdir), f"{folder} is the current folder, which can't be made")
+    is_new = not os.path.lexists(folder) or os.path.isdir(folder) and not os.listdir(folder)
+    refuse_if(not is_new, f"{folder} is there already")
+    is_placed = os.path.islink(folder) or os.path.ismount(folder)
+    refuse_if(is_placed, f"{folder} is a link or a mount point, in whose place no folder can be moved")
     with aside(folder) as path:
         os.mkdir(path)
         from .slicing import Sliced  # only here, so that what is wrong is told at once

@@ -2,18 +2,13 @@
 look up is not there."""
 
 import csv
-import os
 from fractions import Fraction
-
-TABLE = os.path.join(os.path.dirname(os.path.abspath(__file__)), "printers.csv")
+from pathlib import Path
 
 
 class Printer:
-    """A screen as it is built in, how its images lie on it, and the exposures of one resin.
-
-    Lengths of the screen and of the layer are micrometres, as fractions; times are seconds. A screen in `portrait` shows
-    images that are turned by a quarter, so these have `rows` columns and `columns` rows.
-    """
+    """A screen as it is built in, how its images lie on it, and the exposures of one resin, in micrometres and seconds. A screen
+    in `portrait` shows images that are turned by a quarter, so these have `rows` columns and `columns` rows."""
 
     def __init__(self, row):
         self.model, self.name, self.material, self.source = (row[key] for key in ("model", "name", "material", "source"))
@@ -37,7 +32,7 @@ class Printer:
 
 def printers():
     """Each printer of the table by its model."""
-    with open(TABLE, encoding="utf-8", newline="") as file:
+    with Path(__file__).with_name("printers.csv").open(encoding="utf-8", newline="") as file:
         return {row["model"]: Printer(row) for row in csv.DictReader(file)}
 
 

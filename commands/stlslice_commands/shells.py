@@ -4,7 +4,7 @@ import itertools
 from array import array
 from collections import Counter
 
-from .faults import Progress, Refused
+from .faults import Progress, refuse_if
 
 LIMIT = 1_048_576 - 2  # facets of a group, beside the two that are put to it
 BLOCK = 1 << 16
@@ -31,8 +31,7 @@ def grouped(facets):
             above[root(above, it)] = one
     points = array("i", itertools.chain.from_iterable(number_of))
     del number_of
-    if not triangles:
-        raise Refused("the part has no facets")
+    refuse_if(not triangles, "the part has no facets")
     shell_of = array("l", (root(above, it) for it in triangles[::3]))
     group_of, count = packed(shell_of)
     found = [array("I") for _ in range(count)]
@@ -61,8 +60,8 @@ def packed(shell_of):
     """The group of each shell, and how many groups there are: each shell stands in the first group that has room for it."""
     group_of, room = {}, []
     for shell, size in Counter(shell_of).items():
-        if size > LIMIT:
-            raise Refused(f"the part has a shell of {size:,} facets, and --shells takes at most {LIMIT:,}: export it coarser", 3)
+        line = f"the part has a shell of {size:,} facets, and --shells takes at most {LIMIT:,}: export it coarser"
+        refuse_if(size > LIMIT, line, 3)
         number = next((k for k, left in enumerate(room) if left >= size), len(room))
         if number == len(room):
             room.append(LIMIT)

@@ -7,7 +7,7 @@ import time
 import zipfile
 
 from . import words
-from .faults import Refused, command, look_at_output, say, shown, whole_file
+from .faults import command, refuse_if, say, shown, whole_file
 
 ABOUT = """Slices a part into an SL1 archive for a resin printer. The part stands in the middle of the screen, white on
 black; one that doesn't fit is refused. The archive is made aside and moved into place when it is whole, so a fault
@@ -18,13 +18,8 @@ LEVEL = 1  # of deflating the library's PNGs once more: long runs of pixels are 
 COUNT = words.taking("a whole number, 0 to 999", r"\d{1,3}", int)
 SECONDS = words.taking("seconds above 0 and below 100000, as 2.2", r"\d{1,5}(?:\.\d{1,6})?", lambda text: float(text) or None)
 FIRST = 3  # layers with the first exposure, before it fades to that of the others
-
-
-class Defaults:
-    """What PrusaSlicer takes if nothing is given: seconds, layers, and the percentage of the screen from which a layer is slow."""
-
-    exposure, first_exposure, fade, material = 2.2, 25.0, 10, ""
-    fast_tilt, slow_tilt, area_fill = 5.0, 8.0, 50
+# What PrusaSlicer takes if nothing is given: seconds, layers, and the percentage of the screen from which a layer is slow.
+DEFAULTS = dict(exposure=2.2, first_exposure=25.0, fade=10, material="", fast_tilt=5.0, slow_tilt=8.0, area_fill=50)
 
 
 @command
@@ -39,8 +34,7 @@ def run():
     given = words.read(parser)
     fill_in(given)
     now = moment()
-    look_at_output(given.output, given.part)
-    with whole_file(given.output) as file:
+    with whole_file(given.output, given.part) as file:
         from .slicing import Sliced  # only here, so that what is wrong is told at once
         sliced = Sliced(given)
         with zipfile.ZipFile(file, "w") as archive:
@@ -49,21 +43,21 @@ def run():
 
 
 def fill_in(given):
-    """Exposures, resin and tilts that weren't given: the printer's, else those of Defaults."""
-    usual = given.printer or Defaults
-    if given.printer and given.exposure is None and given.layer != usual.layer:
-        say(f"the exposure of {usual.exposure:g} s is that of {usual.material}, whose layers are {usual.layer} micrometres high; "
+    """Exposures, resin and tilts that weren't given: the printer's, else those of DEFAULTS."""
+    it = given.printer
+    if it and given.exposure is None and given.layer != it.layer:
+        say(f"the exposure of {it.exposure:g} s is that of {it.material}, whose layers are {it.layer} micrometres high; "
             "--exposure takes another")
-    for name in ("exposure", "first_exposure", "fade", "material", "fast_tilt", "slow_tilt", "area_fill"):
+    for name, usual in DEFAULTS.items():
         if getattr(given, name, None) is None:
-            setattr(given, name, getattr(usual, name))
+            setattr(given, name, getattr(it, name, usual))
 
 
 def moment():
     """The time that is written into the archive: that of SOURCE_DATE_EPOCH if it is set."""
     told = os.environ.get("SOURCE_DATE_EPOCH", str(int(time.time())))
-    if not re.fullmatch(r"[0-9]{1,11}", told):
-        raise Refused("SOURCE_DATE_EPOCH takes whole seconds since 1970, of at most eleven digits")
+    is_right = re.fullmatch(r"[0-9]{1,11}", told)
+    refuse_if(not is_right, "SOURCE_DATE_EPOCH takes whole seconds since 1970, of at most eleven digits")
     return time.gmtime(int(told))
 
 

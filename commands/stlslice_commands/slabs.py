@@ -1,9 +1,6 @@
-"""`stlslice-slabs`: a part slab by slab, by the program and GNU parallel, which shows its bar on a terminal.
-
-parallel doesn't look at its own writes, so what it passes on is written here, and counted. The first slab that fails halts all
-others, and its line and status are passed on. With -S its line may be lost if a slab below it still runs. -S needs rsync, and ssh
-without a password.
-"""
+"""`stlslice-slabs`: a part slab by slab, by the program and GNU parallel. This doesn't look at its own writes, so what it passes
+on is written here, and counted. The first slab that fails halts all others, and its line and status are passed on; with -S its
+line may be lost if a slab below it still runs. -S needs rsync, and ssh without a password."""
 
 import argparse
 import contextlib
@@ -14,14 +11,13 @@ import shutil
 import signal
 import subprocess
 import sys
-import tempfile
 import threading
 import time
 from functools import partial
 from shlex import quote
 
 from . import formats, words
-from .faults import BLOCK, Refused, command, look_at_output, pour, remove, undone, whole_file
+from .faults import BLOCK, Refused, aside, command, look_at_output, pour, refuse_if, undone, whole_file
 
 ABOUT = """Slices an ASCII STL slab by slab, several slabs at once, on this machine or on several over ssh, with GNU parallel.
 The slabs' images, joined, are those of the whole. For layers.pbm - is standard output, written when all slabs are made."""
@@ -31,6 +27,7 @@ RULE = words.taking("evenodd, nonzero or positive", "evenodd|nonzero|positive", 
 UNIT = words.taking("mm or inch", "mm|inch", str)
 HOSTS = words.taking("machines, as host1,host2,:", r"[][A-Za-z0-9\\ @%,:/._+=~-]+", str)
 END = re.compile(rb"IEND\xaeB`\x82")  # of a PNG
+HEARD = (signal.SIGHUP, signal.SIGINT, signal.SIGTERM)
 
 
 class Parser(words.Parser):
@@ -63,29 +60,25 @@ def words_given():
     add("names", nargs=argparse.REMAINDER, help=argparse.SUPPRESS)
     given, unknown = made.parse_known_args()
     unknown += [it for it in given.names[:1] if it.startswith("-")]
-    if unknown:
-        raise Refused(f"there is no option {unknown[0]}", 2)
-    if len(given.names) != (1 if given.words else 2):
-        raise Refused("it takes part.stl and layers.pbm, or --words and part.stl", 2)
-    if given.names[1:] == [""]:
-        raise Refused("the output has no name", 2)
-    if not given.png and (given.depth or given.mirror_x or given.mirror_y):
-        raise Refused("--depth, --mirror-x and --mirror-y go with --png", 2)
+    refuse_if(unknown, f"there is no option {''.join(unknown[:1])}", 2)
+    refuse_if(len(given.names) != (1 if given.words else 2), "it takes part.stl and layers.pbm, or --words and part.stl", 2)
+    refuse_if(given.names[1:] == [""], "the output has no name", 2)
+    of_pngs = given.depth or given.mirror_x or given.mirror_y
+    refuse_if(of_pngs and not given.png, "--depth, --mirror-x and --mirror-y go with --png", 2)
     given.part, given.output = (*given.names, None)[:2]
     return given
 
 
 def look_at_part(given):
     part = given.part
-    if not os.access(part, os.R_OK) or os.path.isdir(part):
-        raise Refused(f"{part} can't be read")
-    if os.path.isfile(part):
-        with open(part, "rb") as file:
-            if formats.is_binary(os.path.getsize(part), file.read(84)):
-                line = formats.command_for("STL", part, "text")
-                raise Refused(f"the part is binary STL, and text is taken; convert it: {line}", 3)
-    elif not given.words:
-        raise Refused(f"{part} is no plain file, and each slab reads the part anew")
+    refuse_if(not os.access(part, os.R_OK) or os.path.isdir(part), f"{part} can't be read")
+    if not os.path.isfile(part):
+        refuse_if(not given.words, f"{part} is no plain file, and each slab reads the part anew")
+        return
+    with open(part, "rb") as file:
+        is_binary = formats.is_binary(os.path.getsize(part), file.read(84))
+    line = formats.command_for("STL", part, "text")
+    refuse_if(is_binary, f"the part is binary STL, and text is taken; convert it: {line}", 3)
 
 
 def slicer_of(given):
@@ -98,8 +91,7 @@ def slicer_of(given):
     elif given.hosts:
         places, missing = ["stlslice"], "stlslice is not on PATH; -P says where it is, here and there"
     found = next(filter(shutil.which, places), None)
-    if not found:
-        raise Refused(missing)
+    refuse_if(not found, missing)
     # parallel runs in another folder
     return found if given.hosts and "/" not in found else os.path.abspath(shutil.which(found))
 
@@ -109,15 +101,14 @@ class Slabs:
 
     def __init__(self, given, slicer):
         with open(given.part, "rb") as file:
-            ran = subprocess.run([slicer, "--box", "--unit", given.unit], stdin=file, capture_output=True)
-        if ran.returncode:
-            line = None if ran.stderr else f"{slicer} --box ended with status {status_of(ran)} and no line"
-            raise Refused(line, status_of(ran), ran.stderr.decode(errors="backslashreplace"))
-        told = re.fullmatch(rb"facets \d+(?: box((?: -?\d{1,10}){6}))?\n", ran.stdout)
-        if not told:
-            raise Refused(f"{slicer} is no stlslice")
-        if not told[1]:
-            raise Refused("the part has no facets")
+            with started(slicer, [slicer, "--box", "--unit", given.unit], stdin=file, stderr=subprocess.PIPE) as child:
+                told, faults = child.communicate()
+        if child.returncode:
+            line = None if faults else f"{slicer} --box ended with status {status_of(child)} and no line"
+            raise Refused(line, status_of(child), faults.decode(errors="backslashreplace"))
+        told = re.fullmatch(rb"facets \d+(?: box((?: -?\d{1,10}){6}))?\n", told)
+        refuse_if(not told, f"{slicer} is no stlslice")
+        refuse_if(not told[1], "the part has no facets")
         box = list(map(int, told[1].split()))
         sides = zip(box[:3], box[3:], (given.pitch, given.pitch, given.layer))
         columns, rows, self.layers = (max(1, -(-(after - before) // step)) for before, after, step in sides)
@@ -130,12 +121,11 @@ class Slabs:
 
     def are_whole(self, given, file):
         """Whether the images are as many as the layers: P4 images by their bytes, PNGs by their ends."""
+        if not given.png or not file.tell():
+            return file.tell() == self.layers * self.size
         file.flush()
-        size = os.fstat(file.fileno()).st_size
-        if not given.png or not size:
-            return size == self.layers * self.size
         with mmap.mmap(file.fileno(), 0, access=mmap.ACCESS_READ) as images:
-            return sum(1 for _ in END.finditer(images)) == self.layers
+            return len(END.findall(images)) == self.layers
 
 
 def status_of(ended):
@@ -156,32 +146,27 @@ def call_of_parallel(given, slicer, slabs, folder):
     """The call by which GNU parallel runs the slabs, in a folder that has their commands. These are whole, since parallel would
     find marks of its own, such as {}, in names."""
     call = [os.path.abspath(shutil.which("parallel")), "--plain", "--will-cite", "--keep-order", "--null", "--halt", "now,fail=1",
-            "--jobs", given.jobs]
+            "--jobs", given.jobs, "--arg-file", "commands", *["--bar"] * sys.stderr.isatty()]
+    # parallel prints what slabs say in their order, so it would leave out the fault of one that ends before one below it
+    files = f"2>> {quote(os.path.join(folder, 'faults'))} < {quote(os.path.realpath(given.part))}"
     if given.hosts:
         # A copy under a name of its own, relative to the login folder there: --cleanup removes that and never the part.
         copy = f"stlslice-{os.urandom(8).hex()}.stl"
         shutil.copyfile(given.part, os.path.join(folder, copy))
         call += ["--sshlogin", given.hosts, "--basefile", copy, "--cleanup"]
         files = f"< {copy}"
-    else:
-        # parallel prints what slabs say in their order, so it would leave out the fault of one that ends before one below it
-        files = f"2>> {quote(os.path.join(folder, 'faults'))} < {quote(os.path.realpath(given.part))}"
     with open(os.path.join(folder, "commands"), "wb") as file:
         file.write(b"\0".join(os.fsencode(f"{quote(slicer)} {it} {files}") for it in slabs.words))
-    return [*call, "--arg-file", "commands", *["--bar"] * sys.stderr.isatty()]
+    return call
 
 
 def passed_on(given, call, folder, file):
     """Writes what the slabs give. Returns the status of GNU parallel, the first line that slabs said, and what parallel said."""
-    environment = {**os.environ, "TMPDIR": os.path.dirname(folder)}
-    if not given.hosts:
-        environment["PARALLEL_SHELL"] = "/bin/sh"
+    environment = {**os.environ, "TMPDIR": os.path.dirname(folder), **({} if given.hosts else {"PARALLEL_SHELL": "/bin/sh"})}
     # in memory, since the folder may be full
     with open(os.memfd_create("parallel"), "r+", errors="backslashreplace") as own:
-        child = subprocess.Popen(call, cwd=folder, env=environment, stdin=subprocess.DEVNULL, stdout=subprocess.PIPE, bufsize=0,
-                                 stderr=sys.stderr if given.hosts or sys.stderr.isatty() else own,
-                                 preexec_fn=partial(signal.signal, signal.SIGINT, signal.SIG_IGN))
-        with undone(partial(end, child)):
+        with started("GNU parallel", call, cwd=folder, env=environment, stdin=subprocess.DEVNULL,
+                     stderr=sys.stderr if given.hosts or sys.stderr.isatty() else own) as child:
             shutil.copyfileobj(child.stdout, file, BLOCK)
             child.wait()
         own.seek(0)
@@ -190,10 +175,28 @@ def passed_on(given, call, folder, file):
             return status_of(child), said.readline(), own.read()
 
 
+@contextlib.contextmanager
+def started(name, call, **how):
+    """A process that ends with the command. A signal waits until it is known what it has to end."""
+    signal.pthread_sigmask(signal.SIG_BLOCK, HEARD)
+    with told(f"{name} can't be started"):
+        child = subprocess.Popen(call, stdout=subprocess.PIPE, bufsize=0, preexec_fn=begin, **how)
+    with undone(partial(end, child)):
+        signal.pthread_sigmask(signal.SIG_UNBLOCK, HEARD)
+        yield child
+
+
+def begin():
+    """What a process does first: Ctrl-C is the command's alone to answer."""
+    signal.signal(signal.SIGINT, signal.SIG_IGN)
+    signal.pthread_sigmask(signal.SIG_UNBLOCK, HEARD)
+
+
 def end(child):
-    """Ends parallel and its slabs. It hears this as soon as it has begun, and is killed if it hasn't ended 5 seconds later. What
-    they still write is lost."""
-    threading.Thread(target=shutil.copyfileobj, args=(child.stdout, open(os.devnull, "wb")), daemon=True).start()
+    """Ends a process, and parallel its slabs. It hears this as soon as it has begun, and is killed if it hasn't ended 5 seconds
+    later. What is still written is lost."""
+    if not child.stdout.closed:
+        threading.Thread(target=shutil.copyfileobj, args=(child.stdout, open(os.devnull, "wb")), daemon=True).start()
     with contextlib.suppress(ProcessLookupError, ChildProcessError):
         for number in [*10 * [signal.SIGTERM], signal.SIGKILL]:
             if child.returncode is not None or os.waitpid(child.pid, os.WNOHANG)[0]:
@@ -205,28 +208,26 @@ def end(child):
 def make(given, slicer, slabs):
     """Makes the output, whole or not at all."""
     place, name = os.environ.get("TMPDIR") or "/tmp", "standard output" if given.output == "-" else given.output
-    with contextlib.ExitStack() as stack:
+    apart = aside(os.path.abspath(f"{place}/stlslice"))
+    with told(f"{name} can't be written"), whole_file(given.output) as file, apart as folder:
         with told(f"the temporary folder {place} can't be used"):
-            folder = os.path.abspath(tempfile.mkdtemp(dir=place))
-            stack.enter_context(undone(partial(remove, folder)))
+            os.mkdir(folder, 0o700)
             call = call_of_parallel(given, slicer, slabs, folder)
-        with told(f"{name} can't be written"), whole_file(given.output) as file:
-            status, line, of_parallel = passed_on(given, call, folder, file)
-            if status == 255:
-                raise Refused("GNU parallel or ssh failed", 1, line + of_parallel)
-            if status and (line or given.hosts):
-                raise Refused(None, status, line)
-            if status:
-                # parallel tells the command of the slab that failed
-                numbers = [number for number, it in enumerate(slabs.words, 1) if f" {it} " in of_parallel]
-                which = f"slab {numbers[0]} of {len(slabs.words)}" if numbers else "a slab"
-                raise Refused(f"{which} ended with status {status} and no line: is the temporary folder {place} full, or memory "
-                              "short?", status)
-            if not slabs.are_whole(given, file):
-                raise Refused(f"{name} can't be written: images of slabs are lost; is the temporary folder {place} full?")
-            look_at_output(given.output, given.part)
-            if given.output == "-":
-                pour(file)
+        status, line, of_parallel = passed_on(given, call, folder, file)
+        if status == 255:
+            raise Refused("GNU parallel or ssh failed", 1, line + of_parallel)
+        if status and (line or given.hosts):
+            raise Refused(None, status, line)
+        # parallel tells the command of the slab that failed
+        number = next((k for k, it in enumerate(slabs.words, 1) if f" {it} " in of_parallel), None)
+        which = f"slab {number} of {len(slabs.words)}" if number else "a slab"
+        line = f"{which} ended with status {status} and no line: is the temporary folder {place} full, or memory short?"
+        refuse_if(status, line, status)
+        line = f"{name} can't be written: images of slabs are lost; is the temporary folder {place} full?"
+        refuse_if(not slabs.are_whole(given, file), line)
+        look_at_output(given.output, given.part)
+        if given.output == "-":
+            pour(file)
 
 
 @command
@@ -238,10 +239,9 @@ def run():
     if given.words:
         print("\n".join(slabs.words))
         return
-    if not shutil.which("parallel"):
-        raise Refused("GNU parallel is missing (Debian: apt-get install parallel)")
+    refuse_if(not shutil.which("parallel"), "GNU parallel is missing (Debian: apt-get install parallel)")
     look_at_output(given.output, given.part)
     into = os.path.dirname(given.output) or "."
-    if given.output != "-" and not (os.path.isdir(into) and os.access(into, os.W_OK)):
-        raise Refused(f"{given.output} can't be written: no file can be made in {into}")
+    refuse_if(given.output != "-" and not (os.path.isdir(into) and os.access(into, os.W_OK)),
+              f"{given.output} can't be written: no file can be made in {into}")
     make(given, slicer, slabs)

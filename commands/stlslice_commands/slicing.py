@@ -1,14 +1,8 @@
-"""A part on a printer's screen: how it is placed there, and its layers as PNGs.
-
-The part stands in the middle of the screen, whole: one that doesn't fit is refused. Images have x to the right and y upwards,
-so the first row is that of the greatest y, and a pixel inside the part is white. One layer at a time is held in memory.
-"""
+"""A part on a printer's screen: how it is placed there, and its layers as PNGs, of which one at a time is held in memory."""
 
 from functools import partial
 
-import stlslice
-
-from .faults import Progress, Refused, answers, finish, in_mm, say
+from .faults import Progress, Refused, answers, finish, in_mm, refuse_if, say
 from .parts import OPEN, Part, size_of
 
 
@@ -37,11 +31,9 @@ class Sliced:
 
     def opened(self, quarters):
         """The meshes of the part that is turned so, or none if it doesn't fit."""
-        given, meshes = self.given, []
+        given = self.given
         try:
             meshes = self.part.open(canvas=given.canvas, pitch=given.pitch, layer=given.layer, rule=given.rule, turn=quarters)
-        except stlslice.FitFault:
-            pass
         except Refused as fault:
             if fault.status == OPEN:
                 self.measure(self.part.box())
@@ -68,25 +60,20 @@ class Sliced:
             line += "; turned by a quarter it doesn't fit either"
         raise Refused(line)
 
-    def areas_by(self, *rules):
-        """How many pixels of each mesh's layers are lit by each rule."""
-        found = iter(answers(*(partial(mesh.areas, rule) for rule in rules for mesh in self.meshes)))
-        return [[next(found) for _ in self.meshes] for _ in rules]
-
     def areas_of_lit(self):
         """How many pixels of each mesh's layers are lit. A part of which none is lit is refused."""
         Progress.show("slicing", is_new=True)
         rule, is_one = self.given.rule, len(self.meshes) == 1
-        others = {"positive": ["nonzero"], "nonzero": [] if is_one else ["positive"]}.get(rule, [])
-        areas, *others = self.areas_by(rule, *others)
+        rules = [rule, *{"positive": ["nonzero"], "nonzero": [] if is_one else ["positive"]}.get(rule, [])]
+        found = iter(answers(*(partial(mesh.areas, it) for it in rules for mesh in self.meshes)))
+        areas, *others = [[next(found) for _ in self.meshes] for _ in rules]
         totals, *other_totals = [list(map(sum, it)) for it in (areas, *others)]
-        if not any(totals):
-            self.part.refuse_unlit(rule, self.size)
+        self.part.refuse_dark(totals, rule, self.size)
         # What `nonzero` lights and `positive` doesn't is enclosed more often inwards than outwards. Images of several meshes
         # can't be joined then, since an overlap with another mesh may be dark.
         if others and other_totals != [totals]:
-            if not is_one:
-                raise Refused("a shell is inside out, or bounds a hollow: --shells joins such shells by --rule evenodd alone")
+            line = "a shell is inside out, or bounds a hollow: --shells joins such shells by --rule evenodd alone"
+            refuse_if(not is_one, line)
             say(f"a shell is inside out somewhere: {self.millilitres(*totals):.3f} ml by --rule positive, "
                 f"{self.millilitres(*other_totals[0]):.3f} ml by --rule nonzero; look at the layers")
         return areas

@@ -1,5 +1,5 @@
-/* Each call once, with values from outside: a tetrahedron of 4 mm, sliced at 1 mm. Then each allocation of the calls that
- * allocate fails in turn: the status is that of memory, nothing else changes, and the next try succeeds. The status of the
+/* Each call once, with values from outside: a tetrahedron of 4 mm, sliced at 1 mm, and on a screen. Then each allocation of the
+ * calls that allocate fails in turn: the status is that of memory, nothing else changes, and the next try succeeds. The status of the
  * program is 0, or 100 if an answer is another one. Standard error names the tests as they begin.
  *
  *     calls VERSION STEP
@@ -32,6 +32,9 @@ static const uint32_t triangles[12] = {0, 2, 1, 0, 1, 3, 0, 3, 2, 1, 2, 3};
 static const uint8_t four[4] = {0, 0, 0x80, 0x40}, infinite[4] = {0, 0, 0x80, 0x7f};
 
 static const stlslice_options millimetre = {1000, 1000, 0, 0, 0, 0, 0, 0, {0, 0, 0}, 0, {0, 0}, {0, 0}};
+
+/* layers of 190 micrometres on a screen of 300 by 200 pixels of 19 by 24 micrometres, for parts turned by a quarter */
+static const stlslice_options screen = {0, 190, 0, 0, STLSLICE_SCREEN, 300, 200, 0, {0, 0, 0}, 1, {19, 1}, {24, 1}};
 
 /* more allocations than any call here has */
 #define TURNS 1000
@@ -73,7 +76,7 @@ typedef struct {
     stlslice_status status;
     stlslice_mesh mesh;
     stlslice_shape shape;
-    char line[64];
+    char line[STLSLICE_LINE];
 } Opening;
 
 static Opening begun(void) {
@@ -100,7 +103,7 @@ static Opening open_arrays(const uint32_t *corners, size_t count, const stlslice
 static size_t binary_place(size_t facet, size_t corner, size_t axis) { return 84 + 50 * facet + 12 + 12 * corner + 4 * axis; }
 
 /* the tetrahedron as a binary STL with this count, whose last number is this one */
-static Opening open_binary(uint8_t count, const uint8_t last[4]) {
+static Opening open_binary(uint8_t count, const uint8_t last[4], const stlslice_options *options) {
     uint8_t bytes[BINARY_SIZE] = "made by a test";
     bytes[80] = count;
     for (size_t at = 0; at < 12; at++)
@@ -109,15 +112,19 @@ static Opening open_binary(uint8_t count, const uint8_t last[4]) {
                 memcpy(bytes + binary_place(at / 3, at % 3, axis), four, sizeof four);
     memcpy(bytes + binary_place(3, 2, 2), last, sizeof four);
     Opening it = begun();
-    it.status = stlslice_open(bytes, sizeof bytes, &millimetre, &it.mesh, &it.shape, it.line, sizeof it.line);
+    it.status = stlslice_open(bytes, sizeof bytes, options, &it.mesh, &it.shape, it.line, sizeof it.line);
     return it;
 }
 
-static Opening of_binary(void) { return open_binary(4, four); }
+static Opening of_binary(void) { return open_binary(4, four, &millimetre); }
 
 static Opening of_text(void) { return open_text(tetrahedron, &millimetre); }
 
 static Opening of_arrays(void) { return open_arrays(triangles, 4, &millimetre); }
+
+static Opening binary_on_screen(void) { return open_binary(4, four, &screen); }
+
+static Opening arrays_on_screen(void) { return open_arrays(triangles, 4, &screen); }
 
 static Opening box_of_text(void) {
     Opening it = begun();
@@ -299,9 +306,44 @@ static void a_binary_file_is_opened(void) {
     CHECK(is_open(&it));
     CHECK(is_done(mask_in(&it.mesh, 64)));
     stlslice_close(&it.mesh);
-    const Opening endless = open_binary(4, infinite), lying = open_binary(3, four);
+    const Opening endless = open_binary(4, infinite, &millimetre), lying = open_binary(3, four, &millimetre);
     CHECK(is_refused(&endless, STLSLICE_TEXT, "z of corner 2 of facet 3: infinite"));
     CHECK(is_refused(&lying, STLSLICE_TEXT, "expected solid at byte 0"));
+}
+
+/* the tetrahedron on the screen. It is turned to -4 .. 0 mm along x, and so the screen begins at -4.85 and -0.4 mm */
+static void stands_on_the_screen(Opening it) {
+    const stlslice_shape *shape = &it.shape;
+    CHECK(has_box(&it) && it.mesh.is_open && shape->columns == 300 && shape->rows == 200);
+    CHECK(shape->pitch == 456 && shape->layer == 190 && shape->times_x == 24 && shape->times_y == 19);
+    CHECK(shape->origin[0] == -4850 * 24 && shape->origin[1] == -400 * 19 && shape->origin[2] == 0);
+    /* the plane of layer 20 is 105 micrometres below the top, and the next would be above it */
+    CHECK(shape->layers == 21);
+    /* There y - x is below 105. The centres are at x of -14.5, -33.5, .. and y of 20, 44, ..: four in the first row, then three
+     * and two. The next row's y is 92. */
+    uint64_t pixels = NINE;
+    CHECK(stlslice_area(&it.mesh, 20, &pixels) == STLSLICE_DONE && pixels == 4 + 3 + 2);
+    /* in that row: the centre at -90.5 is left of the part, that at -71.5 in it, and that at 4.5 right of it */
+    static const uint32_t columns[3] = {250, 251, 255};
+    static const int32_t crossings[3] = {0, 1, 0};
+    for (int at = 0; at < 3; at++) {
+        stlslice_rays rays = {NINE, NINE};
+        CHECK(stlslice_probe(&it.mesh, columns[at], 17, 20, &rays) == STLSLICE_DONE);
+        CHECK(rays.along_x == crossings[at] && rays.along_y == crossings[at]);
+    }
+    /* twice the area of its triangle, whose points are multiplied, and in half-micrometres */
+    Loops loop;
+    CHECK(stlslice_loops(&it.mesh, 20, loop.points, 3, &loop.count, loop.ends, 1, &loop.loops) == STLSLICE_DONE);
+    int64_t doubled = 0;
+    for (int at = 0; at < 3; at++)
+        doubled += loop.points[at].x2 * loop.points[(at + 1) % 3].y2 - loop.points[(at + 1) % 3].x2 * loop.points[at].y2;
+    CHECK(loop.count == 3 && loop.loops == 1 && doubled == 2 * 105 * 24 * 2 * 105 * 19);
+    stlslice_close(&it.mesh);
+}
+
+static void a_part_stands_on_a_screen(void) {
+    stands_on_the_screen(binary_on_screen());
+    stands_on_the_screen(arrays_on_screen());
 }
 
 /* fails each allocation in turn of opening the tetrahedron, or of its box, until none is left to fail: how many failed */
@@ -322,6 +364,11 @@ static unsigned long failed_openings(Opening (*begin)(void)) {
 static void each_failed_allocation_of_arrays_is_told(void) { CHECK(failed_openings(of_arrays) > 5); }
 
 static void each_failed_allocation_of_a_binary_file_is_told(void) { CHECK(failed_openings(of_binary) > 5); }
+
+static void each_failed_allocation_on_a_screen_is_told(void) {
+    CHECK(failed_openings(binary_on_screen) > 5);
+    CHECK(failed_openings(arrays_on_screen) > 5);
+}
 
 static void each_failed_allocation_of_a_box_is_told(void) { CHECK(failed_openings(box_of_text) > 0); }
 
@@ -405,6 +452,14 @@ static Refusal with_no_cells(void) {
     return it;
 }
 
+/* 210 columns are 3.99 mm */
+static Refusal with_no_fit(void) {
+    Refusal it = {tetrahedron, screen, STLSLICE_NO_FIT,
+                  "part does not fit: 4000 x 4000 micrometres on a screen of 3990 x 4800; turned by a quarter it does not fit either"};
+    it.options.columns = 210;
+    return it;
+}
+
 static bool holds(Refusal it) {
     const Opening opening = open_text(it.text, &it.options);
     return is_refused(&opening, it.status, it.line);
@@ -435,6 +490,7 @@ static void what_is_told_without_memory(void) {
     CHECK(failed_lines(without_solid(), "the file is no STL that can be read") > 0);
     CHECK(failed_lines(with_open_edge(), "the mesh has an open edge") > 0);
     CHECK(failed_lines(with_no_cells(), "there is no such grid") > 0);
+    CHECK(failed_lines(with_no_fit(), "the part does not fit the screen") > 0);
     /* the line of a failed allocation needs none */
     fail_at(1);
     const Opening refused = of_text();
@@ -473,8 +529,10 @@ static const Test tests[] = {
     TEST(a_mesh_is_opened_asked_and_closed),
     TEST(a_mesh_of_arrays_is_opened),
     TEST(a_binary_file_is_opened),
+    TEST(a_part_stands_on_a_screen),
     TEST(each_failed_allocation_of_arrays_is_told),
     TEST(each_failed_allocation_of_a_binary_file_is_told),
+    TEST(each_failed_allocation_on_a_screen_is_told),
     TEST(each_failed_allocation_is_told),
     TEST(each_failed_allocation_of_a_box_is_told),
     TEST(the_facets_of_a_file_are_told),

@@ -2,13 +2,15 @@
 
     screens.py PARTS [SEED]
 
-Each part is a random closed mesh. It stands on screens with pixels of many sides, square or not, whole or not, turned by each
-quarter. Its images, areas and voxels, where it stands, and how many layers it has, are those that its own facets give, turned, and
-not multiplied. What does not fit, or has an open edge, is refused with the line that its own sizes and points give.
+Each part is a random closed mesh, opened from arrays, and each third from a binary file. It stands on screens with pixels of many
+sides, square or not, whole or not, turned by each quarter. Its images, areas and voxels, where it stands, and how many layers it
+has, are those that its own facets give, turned, and not multiplied. What does not fit, or has an open edge, is refused with the line
+that its own sizes and points give.
 """
 
 import math
 import random
+import struct
 import sys
 from collections import Counter
 from fractions import Fraction
@@ -112,17 +114,22 @@ def boxed(facets):
     return tuple(map(min, columns)), tuple(map(max, columns))
 
 
-def opened(facets, *setup):
-    """A mesh of facets, or its fault as status and line."""
+def opened(facets, pitch, layer, rule, canvas, turn=0, as_file=False):
+    """A mesh of facets from arrays, or from a binary file in millimetres, or its fault as status and line."""
     points = [corner for facet in facets for corner in facet]
     try:
-        return stlslice.open_mesh(points, [(at, at + 1, at + 2) for at in range(0, len(points), 3)], *setup)
+        if as_file:
+            numbers = (struct.pack("<12fH", 0, 0, 0, *(it / 1000 for corner in facet for it in corner), 0) for facet in facets)
+            data = bytes(80) + struct.pack("<I", len(facets)) + b"".join(numbers)
+            return stlslice.open(data, pitch, layer, rule, canvas=canvas, turn=turn)
+        triangles = [(at, at + 1, at + 2) for at in range(0, len(points), 3)]
+        return stlslice.open_mesh(points, triangles, pitch, layer, rule, canvas=canvas, turn=turn)
     except stlslice.Fault as fault:
         assert isinstance(fault, stlslice.FitFault) == (fault.status == 9)
         return fault.status, fault.line
 
 
-def compare(dice, had):
+def compare(dice, had, as_file):
     """Holds a random part, in each turn, against this test's own slicer."""
     span = dice.choice((60, 200, 600))
     pitch, sides = dice.choice(PITCHES)
@@ -145,7 +152,8 @@ def compare(dice, had):
         # now and then a canvas for the part with a quarter turn more
         room = size[::-1] if dice.random() < 0.15 else size
         canvas = [max(1, math.ceil(length / side) + dice.randint(min(spare, 0), max(spare, 0))) for length, side in zip(room, sides)]
-        mesh, fault = opened(facets, pitch, layer, rule, None, canvas, turn), open_edge(facets, turn) or too_large(size, sides, canvas)
+        mesh = opened(facets, pitch, layer, rule, canvas, turn, as_file)
+        fault = open_edge(facets, turn) or too_large(size, sides, canvas)
         if fault or isinstance(mesh, tuple):
             assert mesh == fault, (mesh, fault)
             had[f"refused with status {fault[0]}{', and turning helps' if fault[1].endswith('it fits') else ''}"] += 1
@@ -166,7 +174,7 @@ def compare(dice, had):
                 assert mesh.probe(i, j, k)[0] == counts[j][i], (turn, i, j, k)
             for it, fills in RULES.items():
                 assert mesh.areas(it) == [sum(map(fills, sum(counts, []))) for counts in layers], (turn, it)
-        had["images"] += len(layers)
+        had["images of files" if as_file else "images"] += len(layers)
 
 
 def at_the_limits():
@@ -190,9 +198,9 @@ def at_the_limits():
         ([], 50, 50, (99, 99), 0, (5, "no facet is left")),
         (cube(0), 50, 50, (20, 20), 4, (1, "a number is out of its range, or outside the grid")),
     ):
-        found = opened(facets, pitch, layer, "evenodd", None, canvas, turn)
+        found = opened(facets, pitch, layer, "evenodd", canvas, turn)
         assert found == (wanted[0], f"stlslice: {wanted[1]}"), (found, wanted)
-    assert opened(cube(31000000), "47.25", 50, "evenodd", None, (99, 99)).times == (4, 4)
+    assert opened(cube(31000000), "47.25", 50, "evenodd", (99, 99)).times == (4, 4)
 
 
 def main():
@@ -200,11 +208,12 @@ def main():
     had = Counter()
     for number in range(parts):
         try:
-            compare(random.Random(seed * 1000003 + number), had)
+            compare(random.Random(seed * 1000003 + number), had, number % 3 == 2)
         except AssertionError as wrong:
             sys.exit(f"screens.py: part {number} of seed {seed}: {wrong}")
     at_the_limits()
-    wanted = ("images", "crossings on a centre", "refused with status 4", "refused with status 9", "refused with status 9, and turning helps")
+    wanted = ("images", "images of files", "crossings on a centre", "refused with status 4", "refused with status 9",
+              "refused with status 9, and turning helps")
     if parts >= 300 and any(had[it] < 20 for it in wanted):
         sys.exit(f"screens.py: too few {[it for it in wanted if had[it] < 20]}")
     print(f"Python: {parts} random parts on screens: {', '.join(f'{count} {what}' for what, count in sorted(had.items()))}")

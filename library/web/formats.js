@@ -3,35 +3,6 @@
 const FIRST = 3; // layers with the first exposure, before it fades to that of the others
 const DEPTH = 8; // bits of a pixel
 
-// A number as `write` makes it with so many digits behind the point. An exact half goes to the even digit, as in Python;
-// JavaScript takes the greater one.
-function half_even(write, digits) {
-    const most = 100, [exact, power] = write(most).split("e"), cut = exact.length - most + digits;
-    const is_half = /^50*$/.test(exact.slice(cut)), kept = exact.slice(0, cut);
-    return is_half && /[02468]$/.test(kept) ? kept + (power ? `e${power}` : "") : write(digits);
-}
-
-// A number that is not negative as Python's format ".6f" writes it.
-const fixed = (number) => half_even((digits) => number.toFixed(digits), 6);
-
-// The same of the format "g", or ".10g" if ten digits are wanted.
-function general(number, digits = 6) {
-    const [mantissa, power] = half_even((it) => number.toExponential(it), digits - 1).split("e"), at = Number(power);
-    const figures = mantissa.replace(".", "").replace(/(?!^)0+$/, "");
-    if (at >= digits || at < -4)
-        return `${figures[0]}${figures.length > 1 ? "." : ""}${figures.slice(1)}e${at < 0 ? "-" : "+"}${String(Math.abs(at)).padStart(2, "0")}`;
-    if (at < 0) return `0.${"0".repeat(-at - 1)}${figures}`;
-    const whole = figures.padEnd(at + 1, "0");
-    return whole.length > at + 1 ? `${whole.slice(0, at + 1)}.${whole.slice(at + 1)}` : whole;
-}
-
-// The number that is nearest to a fraction of whole BigInts, neither negative.
-function quotient(above, below) {
-    const shift = BigInt(Math.max(0, 64 + below.toString(2).length - above.toString(2).length));
-    const whole = (above << shift) / below, is_exact = whole * below === above << shift;
-    return Number(is_exact ? whole : whole | 1n) / 2 ** Number(shift);
-}
-
 // Seconds that a layer is exposed.
 function exposure_of(number, { exposure, first_exposure, fade }) {
     const faded = Math.max(0, number - FIRST + 1);
@@ -42,13 +13,13 @@ function exposure_of(number, { exposure, first_exposure, fade }) {
 const job_of = (name) => name.replace(/\.sl1s?$/i, "").replace(/[^\p{L}\p{N}_.-]/gu, "_") || "part";
 
 const shown = (text) => text.replace(/[\0-\x1f\x7f-\x9f]/g, (it) => `\\x${it.charCodeAt(0).toString(16).padStart(2, "0")}`);
-const one_line = (text) => shown(text.split(/[\s\x1c-\x1f\x85]+/).filter(Boolean).join(" "));
+const one_line = (text) => shown(text.split(/(?:[^\S\ufeff]|[\x1c-\x1f\x85])+/).filter(Boolean).join(" "));
 
 const lines_of = (pairs) => Object.keys(pairs).sort().map((key) => `${key} = ${pairs[key]}\n`).join("");
 
 // What stands in config.ini: `given` is what was chosen, `slow` how many layers light much of the screen, `lit` the pixels.
 function settings({ given, job, layers, slow, lit, now }) {
-    const { printer, pitch, layer } = given, [[width, a], [depth, b]] = pitch.map((side) => side.map(BigInt));
+    const { printer, pitch, layer } = given;
     let exposures = 0; // one after the other, as a sum of floating-point numbers depends on the order
     for (let number = 0; number < layers; number++) exposures += exposure_of(number, given);
     const moment = new Date(1000 * now).toISOString(), mm = general(layer / 1000);
@@ -59,7 +30,7 @@ function settings({ given, job, layers, slow, lit, now }) {
         printProfile: `${mm} mm`, printTime: fixed(exposures + given.fast_tilt * (layers - slow) + given.slow_tilt * slow),
         printerModel: printer?.model ?? "", printerProfile: printer?.name ?? "", printerVariant: printer ? "default" : "",
         prusaSlicerVersion: "stlslice",
-        usedMaterial: fixed(quotient(BigInt(lit) * width * depth * BigInt(layer), a * b * 10n ** 12n)),
+        usedMaterial: fixed(volume_of(lit, pitch, layer)),
     });
 }
 
@@ -102,11 +73,14 @@ async function add_layers({ milliseconds }) {
 
 async function whole_zip() {
     const { name, zip, given, lit } = saving, encoder = new TextEncoder();
-    if (!lit) throw new Fault(null, "no pixel is lit");
+    if (!lit) throw new Fault(REFUSED, unlit_line(size_between(shape), shape.rule, shape.unit));
     if (name !== null) {
         await zip.add("config.ini", encoder.encode(settings(saving)));
         await zip.add("prusaslicer.ini", encoder.encode(profile(given)));
     }
-    saving = null;
     return zip.blob();
+}
+
+function end_zip() {
+    saving = null;
 }

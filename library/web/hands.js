@@ -2,7 +2,7 @@
 
 by("file").onchange = () => take_files(by("file").files);
 by("file").onclick = () => { by("file").value = ""; };
-by("form").onsubmit = (it) => { it.preventDefault(); slice(); };
+by("form").onsubmit = (it) => it.preventDefault(); // a field that was changed has asked already
 by("form").onchange = () => {
     lay_form();
     keep();
@@ -15,12 +15,17 @@ by("archive").onchange = () => {
     tell_command();
     draw();
 };
+for (const id in TAKES) by(id).oninput = () => judge(id);
 by("outlines").onchange = () => {
     keep();
     draw();
 };
 by("layer").oninput = show;
 by("stop").onclick = stop;
+by("again").onclick = () => {
+    part.is_new = true;
+    slice();
+};
 by("down").onclick = () => go(k_now() - 1);
 by("up").onclick = () => go(k_now() + 1);
 by("nearer").onclick = () => zoom(1.5);

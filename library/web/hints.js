@@ -16,6 +16,7 @@ const WAYS = {
     STEP: Array(3).fill("open it in FreeCAD, choose the body, then File > Export, as STL mesh"),
     IGES: Array(3).fill("open it in FreeCAD, choose the body, then File > Export, as STL mesh"),
     Blender: Array(3).fill(BLENDER),
+    SketchUp: Array(3).fill("open it in SketchUp, then File > Export > 3D Model, as STL"),
     ...Object.fromEntries(["glTF", "FBX", "COLLADA", "VRML", "DXF"].map((kind) => [kind, Array(3).fill(IMPORT)])),
     zip: ["right-click it, then Extract All", "double-click it", "unzip NAME"],
     gzip: [ARCHIVER, "double-click it", "zcat NAME > MADE"],
@@ -23,13 +24,18 @@ const WAYS = {
 };
 const PACKED = ["zip", "gzip", "7z or RAR"];
 const TAKEN = ["3MF", "OBJ"]; // by the commands, which are for Linux
+const NAMED_BY_COMMANDS = [...TAKEN, "zip", "gzip", "PLY", "OFF", "AMF"];
 const OTHERS = {
     "G-code": "It is G-code, which is made for one printer from a part. The part itself is needed, as STL.",
     "a web page": "It is a web page that was saved in the part's place. Download the part itself once more.",
     "a picture or document": "It is a picture or a document, and has no part in it.",
+    "a file of a CAD or Office program": "If it has a part, export that as STL from the program that made it.",
 };
 const NOT_WHOLE = { title: "A binary STL that is not whole, or another kind of file",
     words: ["It was cut, or it is another kind of file. Get it again, or export the part again as STL."] };
+
+const ANOTHER = { title: "Another kind of file",
+    words: ["It does not begin as an STL does. Export the part as STL from the program that made it."] };
 
 // Hints by the word that does not fit, or by the kind of the file.
 const TELLING = [
@@ -45,12 +51,19 @@ function advice(kind, name) {
     if (kind === "not whole") return [NOT_WHOLE];
     if (OTHERS[kind]) return [{ title: `${kind[0].toUpperCase()}${kind.slice(1)}, not an STL`, words: [OTHERS[kind]] }];
     if (!WAYS[kind]) return [];
-    const words = PACKED.includes(kind) ? ["Unpack it, and choose the STL that is in it:"]
+    const words = PACKED.includes(kind)
+        ? ["Unpack it, and choose the STL that is in it. If there is none, export the part as STL from the program that made it. To unpack:"]
         : ["Export the part as STL from the program that made it. If you have only this file:"];
-    const told = (way) => way.includes("NAME") ? element("code", with_names(way, kind, name)) : way;
+    const told = (way) => way.includes("NAME") ? element("code", ...unbroken(with_names(way, kind, name))) : way;
     const first = (system) => system === "Linux" && TAKEN.includes(kind) ? ["stlslice-sl1 takes it as it is; for an STL: "] : [];
     const systems = ["Windows", "macOS", "Linux"].map((it, at) => [it, ...first(it), told(WAYS[kind][at])]);
     return [{ title: `${/^[AFIO]/.test(kind) ? "An" : "A"} ${kind} file, not an STL`, words, systems }];
+}
+
+// The commands' line for a kind that they know, or null. They take some kinds that the page does not.
+function kind_line(kind, name) {
+    if (!NAMED_BY_COMMANDS.includes(kind)) return null;
+    return `the part is ${kind}, not STL; ${PACKED.includes(kind) ? "unpack" : "convert"} it: ${with_names(WAYS[kind][2], kind, name)}`;
 }
 
 // A command for a file. Programs that convert tell a format by the name's ending, so a file with another one is copied.
@@ -70,6 +83,7 @@ function pattern_of(line) {
 
 // The hints for a line, the likeliest first, as the kind of the file or the word at the fault's place tells.
 function hints_for(line, kind, telling) {
+    if (line === "expected solid at byte 0" && !OF_KINDS[kind]) return [ANOTHER]; // the kinds of its hints are told by their first bytes
     const pattern = pattern_of(line), begin = pattern.split("#")[0].trim();
     const exact = data.hints.filter((it) => it.lines.some((other) => pattern_of(other) === pattern));
     const found = exact.length || !begin ? exact : data.hints.filter((it) => it.lines.some((other) => other.startsWith(begin)));

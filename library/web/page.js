@@ -16,26 +16,28 @@ const height_of = (k) => opened.origin[2] + (k + 0.5) * opened.options.layer;
 
 // Opens the part with the form's options.
 const slice = latest(async (is_last) => {
+    judge_all();
     if (!part || !by("form").reportValidity()) return;
-    const options = options_now(), of = part;
+    const options = options_now(), fields = fields_now(), of = part;
     if (slicer.has_stopped) renew();
-    begin_wait(`Slicing ${of.name}`);
+    const end_wait = begin_wait(`Slicing ${of.name}`);
     try {
         // also if another is wished by now, since the worker has this mesh
         const told = await slicer.open(options, of);
-        refuse_high(options, told);
-        took(told, options, of);
+        took({ ...told, options, fields, of });
     } catch (fault) {
-        if (is_last() && part === of) refused(fault, of);
+        // one that is too high is in the worker by then, in place of what is shown
+        if (!fault.ended && (fault.status === REFUSED || is_last() && part === of)) refused(fault, of);
     } finally {
         end_wait();
     }
 });
 
-function took(told, options, of) {
-    const height = opened && opened.of === of ? height_of(k_now()) : null;
-    const pitch = options.screen?.pitch ?? [[options.pitch, 1], [options.pitch, 1]];
-    opened = { ...told, options, of, sides: pitch.map(([above, below]) => above / below) }; // of a pixel, in micrometres
+function took(told) {
+    const { options, of } = told, height = opened?.of === of ? height_of(k_now()) : of.height;
+    const sides = options.screen?.pitch ?? [[options.pitch, 1], [options.pitch, 1]]; // of a pixel, in micrometres
+    opened = { ...told, fractions: sides, sides: sides.map(([above, below]) => above / below) };
+    of.height = null;
     shown = null;
     areas = [];
     look = { zoom: 1, x: 0, y: 0 };
@@ -51,18 +53,19 @@ function took(told, options, of) {
     find_areas();
 }
 
-// A printer has a height too, which the library does not know.
-function refuse_high({ screen }, { low, high }) {
-    const height = high[2] - low[2], most = screen?.printer?.height ?? Infinity;
-    if (height > most) throw new Error(`the part doesn't fit: it is ${mm(height)} mm high, the ${screen.printer.model} ${mm(most)} mm`);
-}
-
-// Ends what is under way. A part that is being opened is given up, with the worker.
+// Ends what is under way. Saving leaves the part open. Opening ends with its worker: what was open before is opened once more, as it
+// was. If nothing was, or that is stopped too, the part waits for a button.
 function stop() {
-    if (!slice.is_running() && save_all.is_running()) return save_all(null);
-    part = null;
+    save_all(null);
+    if (!slice.is_running()) return;
+    slice.forget(); // no other opening follows
+    const before = opened, height = before && height_of(k_now());
     renew();
-    refused(new Error("stopped by hand; choose the part again to slice it"), { name: "Slicing" });
+    part.is_new = true;
+    if (!before) return refused(Object.assign(new Error("stopped by hand"), { stopped: true }), part);
+    part = Object.assign(before.of, { height, is_new: true, is_back: true });
+    put(before.fields);
+    return slice();
 }
 
 // Shows the layer of the slider.
@@ -126,7 +129,7 @@ async function quiet() {
 }
 
 function take(file, name = file.name, others = []) {
-    part = { file, name, others, is_new: true };
+    part = { file, name, others, height: null, is_new: true };
     return slice();
 }
 

@@ -20,8 +20,8 @@ sys.dont_write_bytecode = True
 from stlslice_commands.printers import printers  # noqa: E402
 
 # Scripts, joined in this order; a name that one declares is seen in all of its list.
-ON_PAGE = ["page", "slicer", "settings", "screens", "hints", "view", "plot", "saving", "hands"]
-IN_WORKER = ["worker", "parts", "picture", "zip", "formats"]
+ON_PAGE = ["numbers", "lines", "page", "slicer", "settings", "screens", "hints", "view", "plot", "saving", "hands"]
+IN_WORKER = ["numbers", "lines", "worker", "parts", "picture", "zip", "formats"]
 DEMOS = ["helical_gear", "bracket", "supported", "calibration_block"]
 
 

@@ -17,21 +17,23 @@ const KINDS = {
     OBJ: /^(?:[ \t-\r]|#[^\n]*\n)*(?:v|vn|vt|vp|f|o|g|s|mtllib|usemtl)[ \t]/,
     AMF: /^(?:\xef\xbb\xbf)?[ \t-\r]*(?:<[?!][^>]*>[ \t-\r]*)*<amf[ \t-\r>]/,
     "7z or RAR": /^(7z\xbc\xaf|Rar!)/,
+    SketchUp: /^\xff\xfe\xff\x0e/,
     "UTF-16": /^(\xff\xfe|\xfe\xff)/,
+    COLLADA: /^(\xef\xbb\xbf)?\s*(<\?xml[^>]*>\s*)?<COLLADA\b/,
     "byte order mark": /^\xef\xbb\xbf/,
     STEP: /^\s*ISO-10303-21;/,
     IGES: /^[^\n]{72}S +1\s/,
     glTF: /^(glTF|\s*\{\s*"(asset|scene|accessors)")/,
-    FBX: /^Kaydara FBX/,
+    FBX: /^(Kaydara FBX|; FBX )/,
     Blender: /^BLENDER/,
-    COLLADA: /^\s*(<\?xml[^>]*>\s*)?<COLLADA\b/,
     VRML: /^#(VRML|X3D)/,
     DXF: /^\s*(999[^]*?)?0\s+SECTION\s/,
-    "G-code": /^\s*(;[^\n]*\n\s*)*[GM]\d+\s/,
+    "G-code": /^\s*(;[^\n]*\n\s*)*([GM]\d+\s|;)/,
     "a web page": /^\s*<(!doctype html|html|head|body)\b/i,
-    "a picture or document": /^(\x89PNG|\xff\xd8\xff|GIF8|BM|%PDF|\{\\rtf|\xd0\xcf\x11\xe0)/,
+    "a picture or document": /^(\x89PNG|\xff\xd8\xff|GIF8|BM|%PDF|\{\\rtf)/,
+    "a file of a CAD or Office program": /^\xd0\xcf\x11\xe0/,
 };
-const NAMED = ["3MF", "zip", "gzip", "PLY", "OFF", "OBJ", "AMF", "UTF-16"]; // what the commands take for no binary STL
+const NAMED = ["3MF", "zip", "gzip", "PLY", "OFF", "OBJ", "AMF", "UTF-16", "SketchUp"]; // what the commands take for no binary STL
 
 // Takes the bytes of a part. The library too takes a file of this length for a binary STL.
 function read({ all }) {

@@ -17,30 +17,43 @@ function moment() {
     return Math.floor(Date.now() / 1000);
 }
 
+let unsaved = null; // the warning of what was not saved the last time
+
 // Saves all layers as an `archive`, or as a zip of PNGs. Another call ends it, and so does another mesh.
 const save_all = latest(async (is_last, kind) => {
+    if (!kind) return;
+    await slice.ended(); // the mesh that is opened just now is the one to save
     const of = opened;
-    if (!kind || !of || !is_archive_right()) return;
-    const is_archive = kind === "archive", name = is_archive ? made_of(of.of.name, ".sl1") : `${stem(of.of.name)}_pngs.zip`;
+    const is_archive = kind === "archive";
+    if (!of || is_archive && !is_archive_right()) return;
+    const name = is_archive ? made_of(of.of.name, ".sl1") : `${stem(of.of.name)}_pngs.zip`;
     const goes_on = () => of === opened && is_last();
-    begin_wait(`Saving ${name}`);
+    const end_wait = begin_wait(`Saving ${name}`);
+    say("");
+    unsaved?.remove();
+    by("stage").scrollIntoView({ block: "nearest" }); // where Stop is
     try {
         await slicer.call("begin_zip", { name: is_archive ? name : null, given: archive_now(), now: moment() });
         for (let done = 0; goes_on() && done < of.layers; tell_progress(done, of.layers))
             done = await slicer.call("add_layers", { milliseconds: ADDING });
-        if (goes_on()) download(await slicer.call("whole_zip"), name);
+        if (goes_on()) {
+            download(await slicer.call("whole_zip"), name);
+            say(`saved: ${name}`);
+        } else say(`stopped: ${name} is not saved`);
     } catch (fault) {
         if (of !== opened) return;
         if (fault.stopped) return refused(fault, of.of);
-        warn(`${name} is not saved: ${fault.message}`);
+        unsaved = warn(`${name} is not saved: ${fault.message}`);
         by("warnings").scrollIntoView({ block: "nearest" });
     } finally {
+        slicer.call("end_zip").catch(() => {}); // what was not saved takes no more room
         end_wait();
     }
 });
 
 // A wrong field is shown, which a browser does not do where it is folded away.
 function is_archive_right() {
+    judge_all();
     by("exposures").open ||= !by("archive").checkValidity();
     return by("archive").reportValidity();
 }

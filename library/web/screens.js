@@ -4,9 +4,8 @@ const TOOLS = ["nearer", "farther", "whole", "save", "up", "down", "save_pngs", 
 const grouped = (it) => it.toLocaleString("en-US");
 const mm = (micrometres) => (micrometres / 1000).toFixed(3);
 const square_mm = (pixels) => pixels * opened.sides[0] * opened.sides[1] / 1e6;
-const millilitres = (pixels) => (pixels * opened.sides[0] * opened.sides[1] * opened.options.layer / 1e12).toFixed(3);
+const volume = (pixels) => volume_of(pixels, opened.fractions, opened.options.layer); // in millilitres
 const sum = (numbers) => numbers.reduce((all, it) => all + it, 0);
-const sizes = () => [0, 1, 2].map((it) => opened.high[it] - opened.low[it]);
 
 function element(kind, ...parts) {
     const made = document.createElement(kind);
@@ -15,6 +14,7 @@ function element(kind, ...parts) {
 }
 
 const classed = (name, ...parts) => Object.assign(element("span", ...parts), { className: name });
+const unbroken = (line) => line.split(/(\S*-\S*)/).map((it, at) => at % 2 ? classed("whole", it) : it); // no option after its hyphens
 const spare = (...parts) => classed("spare", ...parts); // what is left out where there is little room
 
 function clear_views() {
@@ -28,13 +28,27 @@ function clear_views() {
 
 // ---- what is under way
 
-let waits = null;
+const waits = []; // what is under way: the last that takes long is shown
+
+// Begins a wait, and returns what ends it.
 function begin_wait(words) {
-    clearTimeout(waits);
-    waits = setTimeout(() => {
-        by("busy").hidden = false;
-        by("busy_words").textContent = words; // when they are seen, so that they are read aloud
+    const wait = { words, is_long: false }, timer = setTimeout(() => {
+        wait.is_long = true;
+        tell_wait();
     }, 150);
+    waits.push(wait);
+    return () => {
+        clearTimeout(timer);
+        waits.splice(waits.indexOf(wait), 1);
+        tell_progress();
+        tell_wait();
+    };
+}
+
+function tell_wait() {
+    const seen = waits.filter((it) => it.is_long).pop();
+    by("busy").hidden = !seen;
+    if (seen) by("busy_words").textContent = seen.words; // when they are seen, so that they are read aloud
 }
 
 // The bar's part that is done; without one it moves, or stands if motion is not wanted.
@@ -43,22 +57,16 @@ function tell_progress(done, all) {
     by("done").style.width = all ? `${100 * done / all}%` : "";
 }
 
-function end_wait() {
-    clearTimeout(waits);
-    by("busy").hidden = true;
-    tell_progress();
-}
-
 // ---- the part and its layer
 
 function tell_part() {
     const { facets, columns, rows, sides, layers, took: time, of } = opened;
     by("part").hidden = false;
     by("name").textContent = of.name;
-    const told = [["Size, mm", sizes().map(mm).join(" × ")],
+    const told = [["Size, mm", size_between(opened).map(mm).join(" × ")],
         ["Facets", grouped(facets) + (of.is_binary ? ", from a binary file" : "")],
         ["Pixels", `${grouped(columns)} × ${grouped(rows)} of ${[...new Set(sides)].join(" × ")} µm`], ["Layers", grouped(layers)],
-        ["Volume", areas.length === layers ? `${millilitres(sum(areas))} ml` : `… layer ${grouped(areas.length)}`],
+        ["Volume", areas.length === layers ? `${fixed(volume(sum(areas)), 3)} ml` : `… layer ${grouped(areas.length)}`],
         ["Opened in", `${time.toFixed(0)} ms`]];
     by("facts").replaceChildren(...told.flatMap(([name, value]) => [element("dt", name), element("dd", value)]));
 }
@@ -82,24 +90,27 @@ function tell_exposures() {
 
 function tell_command() {
     if (!opened) return;
-    by("copied").textContent = "";
+    say("");
     const pieces = (word) => word.split(/(?<=,)/).flatMap((it) => [classed("whole", it), element("wbr")]);
     by("command").replaceChildren(...command_of(opened).flatMap((it) => it.startsWith("--") ? [...pieces(it), " "] : [it, " "]));
 }
 
-let said = null; // the timer of what is said of a copy
+let said = null; // the timer of what is said of a copy, or of a file that is saved
+
+function say(words, milliseconds = Infinity) {
+    clearTimeout(said);
+    by("said").textContent = words;
+    if (milliseconds < Infinity) said = setTimeout(() => { by("said").textContent = ""; }, milliseconds);
+}
 
 async function copy() {
-    let words = "not copied: it is marked, so copy it by hand";
-    clearTimeout(said);
     try {
         await navigator.clipboard.writeText(by("command").textContent.trim());
-        words = "copied";
-        said = setTimeout(() => { by("copied").textContent = ""; }, 4000);
+        say("copied", 4000);
     } catch {
         getSelection().selectAllChildren(by("command"));
+        say("not copied: it is marked, so copy it by hand");
     }
-    by("copied").textContent = words;
 }
 
 function tell_layer() {
@@ -112,28 +123,31 @@ function tell_layer() {
 
 // ---- warnings, as the commands have them
 
-const warn = (line) => by("warnings").append(element("p", line));
+const warn = (line) => by("warnings").appendChild(element("p", ...unbroken(line)));
 
 // Warns of what is seen from the part's size and name, after all earlier warnings are gone.
 function warn_first() {
-    const { of: { name, others }, options } = opened, largest = Math.max(...sizes());
+    const { of, options } = opened, size = size_between(opened);
     by("warnings").replaceChildren();
+    if (of.is_back) warn(`Stopped: this is ${of.name}, as it was before.`);
+    of.is_back = false;
+    warn_of_others(of);
+    if (is_odd(size)) warn(unit_line(size, options.unit));
+}
+
+function warn_of_others({ name, others = [] }) {
     if (others.length) warn(`${others.length + 1} files were dropped: this is ${name}. Left out: ${others.join(", ")}`);
-    if (largest < 1000 || largest > 1e6)
-        warn(`The part is ${sizes().map(mm).join(" × ")} mm: is ${UNITS[options.unit]} the unit of its numbers?`);
 }
 
 // Warns if no pixel is lit, or if `nonzero` lights others than `positive`: a shell is then enclosed more often inwards than
 // outwards.
 async function look_at_shells(of, each) {
-    const [, nonzero, positive] = [0, 1, 2], { rule, unit } = of.options, name = by("rule").options[rule].text, lit = sum(areas);
-    if (!lit)
-        warn(`No pixel is lit by ${name}: is the part inside out (try nonzero), or its unit another than ${UNITS[unit]}?`);
+    const [, nonzero, positive] = [0, 1, 2], { rule, unit } = of.options, lit = sum(areas);
+    if (!lit) warn(unlit_line(size_between(of), rule, unit));
     if (rule !== positive) return;
     let others = 0;
     if (await each("areas", { rule: nonzero }, of.layers, (more) => { others += sum(more); }) && lit && others !== lit)
-        warn(`A shell is inside out somewhere: ${millilitres(lit)} ml by positive, ${millilitres(others)} ml by nonzero; look at `
-            + "the layers.");
+        warn(inside_out_line(volume(lit), volume(others)));
 }
 
 // ---- faults
@@ -144,16 +158,18 @@ function refused(fault, of) {
     areas = [];
     by("part").hidden = true;
     by("warnings").replaceChildren();
+    warn_of_others(of);
     by("told").textContent = "No layer";
     clear_views();
     by("fault").hidden = false;
     by("fault").scrollTop = 0;
     by("fault_head").textContent = fault.status ? `${of.name} is refused, status ${fault.status}` : of.name;
-    by("fault_line").textContent = fault.message;
+    by("fault_line").replaceChildren(...unbroken(fault.status === NO_STL && kind_line(of.kind, of.name) || fault.message));
+    by("again").hidden = !fault.stopped || !part;
     const kind = fault.status ? advice(of.kind, of.name) : [], anew = "Change an option or choose a part to start it anew.";
     // a line of a file that is no text says nothing
     by("fault_place").textContent = kind.length ? ""
-        : fault.place ?? edge_in(fault.message) ?? fit_in(fault.message) ?? (fault.stopped ? anew : "");
+        : fault.place ?? edge_in(fault.message) ?? fit_in(fault.message) ?? many_in(fault.message) ?? (fault.stopped ? anew : "");
     const found = kind.length || !fault.status ? kind : hints_for(fault.message, of.kind, fault.telling);
     const head = found.length > 1 ? "What this is, in most files:" : "What this is:";
     by("hints").replaceChildren(...found.length ? [element("h3", head)] : [], ...found.map((it) => hint(it, found.length < 3)));
@@ -167,19 +183,19 @@ function edge_in(line) {
     return found && `The edge from ${point(1)} to ${point(4)} mm. There may be more.`;
 }
 
-// What does not fit, in millimetres, and whether a turn helps.
+// How a part fits that does not fit as it is.
 function fit_in(line) {
-    const found = /^part does not fit: (\d+) x (\d+) micrometres on a screen of (\d+) x (\d+); (.* it fits)?/.exec(line);
-    const [width, depth, screen_width, screen_depth] = found?.slice(1).map(mm) ?? [], turn = by("turn").checked ? "not turned" : "turned";
-    return found && `On this screen the part is ${width} × ${depth} mm, and the screen ${screen_width} × ${screen_depth} mm.`
-        + (found[5] ? ` It fits if it is ${turn} by a quarter (below Printer).` : "");
+    const found = /; it fits without --turn$|; turned by a quarter it fits: --turn$/.exec(line);
+    return found && `It fits if it is ${by("turn").checked ? "not turned" : "turned"} by a quarter (below Printer).`;
 }
+
+const many_in = (line) => line.startsWith("too many facets") ? MANY_FACETS : null;
 
 function hint({ title, words, command, systems }, is_open) {
     const made = element("details");
     made.open = is_open;
     made.append(element("summary", title), ...words.map((it) => element("p", it)));
     if (systems) made.append(element("dl", ...systems.flatMap(([name, ...way]) => [element("dt", name), element("dd", ...way)])));
-    if (command) made.append(element("p", "How to fix it, on a command line:"), element("pre", command));
+    if (command) made.append(element("p", "Export the part again as STL. Or, on a command line of Linux:"), element("pre", command));
     return made;
 }

@@ -1,6 +1,5 @@
 // What is chosen by hand: the form's options, which are kept from one visit to the next, and the command for the same.
 
-const UNITS = ["mm", "inch", "cm", "m"];
 const KEPT = ["printer", "pitch", "height", "rule", "unit", "columns", "rows", "width", "depth", "turn", "mirror_x", "mirror_y",
     "exposure", "first_exposure", "fade", "material", "outlines"];
 // What `stlslice-sl1` takes if nothing is given: seconds, layers, and the percentage of the screen from which a layer is slow.
@@ -19,10 +18,11 @@ function storage() {
     }
 }
 
+const told_by = (ids) => Object.fromEntries(ids.map((id) => [id, is_box(by(id)) ? by(id).checked : by(id).value]));
+
 function keep() {
-    const told = Object.fromEntries(KEPT.map((id) => [id, is_box(by(id)) ? by(id).checked : by(id).value]));
     try {
-        storage()?.setItem("stlslice", JSON.stringify(told));
+        storage()?.setItem("stlslice", JSON.stringify(told_by(KEPT)));
     } catch {
         // a full storage keeps nothing
     }
@@ -45,6 +45,35 @@ function restore() {
     }
     lay_form();
 }
+
+// The fields that a part is opened with; and puts them back as they were.
+const fields_now = () => told_by(KEPT.filter((id) => by("form").contains(by(id))));
+
+function put(fields) {
+    for (const [id, value] of Object.entries(fields)) by(id)[is_box(by(id)) ? "checked" : "value"] = value;
+    lay_form();
+    keep();
+}
+
+// ---- what fields take, in the words of the commands' options
+
+const WHOLE = "a whole number, 1 to 100000", CANVAS = "COLUMNSxROWS, each 1 to 99999, as in 2560x1620";
+const SIDE = "micrometres above 0 and below 1000000, with at most three digits after the point, as 50, 47.25 or 19x24";
+const TIME = "seconds above 0 and below 100000, as 2.2";
+const TAKES = {
+    pitch: ["--pitch", WHOLE], height: ["--layer", WHOLE], columns: ["--canvas", CANVAS], rows: ["--canvas", CANVAS],
+    width: ["--pitch", SIDE], depth: ["--pitch", SIDE], exposure: ["--exposure", TIME], first_exposure: ["--first-exposure", TIME],
+    fade: ["--fade", "a whole number, 0 to 999"],
+};
+
+// Gives a wrong field the commands' line, which the browser shows in place of its own.
+function judge(id) {
+    const field = by(id), [option, words] = TAKES[id];
+    field.setCustomValidity("");
+    if (!field.validity.valid) field.setCustomValidity(`argument ${option}: it takes ${words}`);
+}
+
+const judge_all = () => Object.keys(TAKES).forEach(judge);
 
 let laid = null; // the printer that the form was laid for
 
@@ -122,12 +151,12 @@ function command_of({ options: { pitch, layer, rule, unit, screen }, of }) {
     if (unit) words.push(`--unit ${UNITS[unit]}`);
     if (screen) return ["stlslice-sl1", ...words_of(screen), ...words, ...archive_words(), name, named(made_of(of.name, ".sl1"))];
     words.unshift(`--pitch ${pitch}`);
-    if (of.is_binary || unit > 1) return ["stlslice-page", ...words, name, named(made_of(of.name, ".html"))];
+    if (of.is_binary || unit > MOST_UNIT) return ["stlslice-page", ...words, name, named(made_of(of.name, ".html"))];
     return ["stlslice", ...words, `< ${name}`, `> ${named(made_of(of.name, ".pbm"))}`];
 }
 
-function words_of({ printer, canvas, pitch }) {
-    const turn = by("turn").checked ? ["--turn"] : [];
+function words_of({ printer, canvas, pitch, turn: quarters }) {
+    const turn = quarters > Number(printer?.is_portrait ?? false) ? ["--turn"] : [];
     if (printer) return [`--printer ${printer.model}`, ...turn];
     const [width, depth] = pitch.map(([above, below]) => above / below), mirrors = ["mirror_x", "mirror_y"].filter((id) => by(id).checked);
     return [`--canvas ${canvas.join("x")}`, `--pitch ${width === depth ? width : `${width}x${depth}`}`, ...turn,

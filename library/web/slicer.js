@@ -1,7 +1,8 @@
 // The worker with the slicer in it, and who may ask it.
 
 // A function that runs a task, one run at a time. If it is called meanwhile, the task runs once more, with the words of the
-// last call. The task's first word is `is_last`, which says whether there was no such call yet.
+// last call. The task's first word is `is_last`, which says whether there was no such call yet. `forget` drops a call that waits, and
+// `ended` waits until nothing runs.
 function latest(task) {
     let wanted = null, running = null;
     const run = async () => {
@@ -19,7 +20,7 @@ function latest(task) {
         wanted = words;
         return running ??= run();
     };
-    return Object.assign(call, { is_running: () => running !== null });
+    return Object.assign(call, { is_running: () => running !== null, forget: () => { wanted = null; }, ended: async () => { await running; } });
 }
 
 // `call` promises the result of a call, or fails with a fault: a status, a line and perhaps a place.
@@ -90,7 +91,7 @@ class Slicer {
     }
 
     end() {
-        this.fail(new Error("stopped"));
+        this.fail(Object.assign(new Error("stopped"), { ended: true }));
         this.worker?.terminate();
         URL.revokeObjectURL(this.url);
     }
@@ -105,6 +106,7 @@ function renew() {
     slicer.end();
     slicer = new Slicer();
     opened = null; // the new worker has no mesh
+    clear_views();
 }
 
 // The answer of the mesh that is opened. If another one was opened meanwhile, it is asked of that. A fault of the mesh is

@@ -1,7 +1,7 @@
 // The slicer, in a worker: the library as WebAssembly, with one part and its mesh at a time. A message has the name of
 // a call and a number, and the reply has the same number. Calls run one after the other.
 
-const DONE = 0, NO_STL = 3, MEMORY = 6, NO_ROOM = 7, LINE = 256;
+const DONE = 0, MEMORY = 6, NO_ROOM = 7, NO_FIT = 9, LINE = 256;
 const HEAD = 16; // bytes before the rows of an image, of which the words take no more
 const FITTED = 0, GIVEN = 1, SCREEN = 2; // where the grid lies
 const AREAS_AT_ONCE = 32; // layers
@@ -120,13 +120,33 @@ function open(options) {
         put_options(options);
         const status = ask("stlslice_open", big(at), big(file.length), big(places.options), big(places.mesh), big(places.shape),
             big(places.line), big(LINE));
-        if (status !== DONE) throw placed(new Fault(status, line_told()));
+        if (status !== DONE) throw refusal(new Fault(status, line_told()), options, at);
     } finally {
         free(at);
     }
-    shape = { ...shape_told(), rule: options.rule };
+    shape = { ...shape_told(), rule: options.rule, unit: options.unit };
     known = [];
+    const size = size_between(shape), most = options.screen?.printer?.height ?? Infinity; // the library knows no heights
+    if (size[2] > most) throw no_fit(size, options);
     return { ...shape, took: performance.now() - began, memory: library.memory.buffer.byteLength };
+}
+
+// The fault of stlslice-sl1 in place of the library's, which is the program's. It tells the size of all facets, and if there are none.
+function refusal(fault, options, at) {
+    if (fault.status === NO_FIT) return no_fit(size_between(box(at, options)), options);
+    const is_programs = !is_binary && !options.screen && options.unit <= MOST_UNIT;
+    if (fault.message === NOTHING_LEFT && !is_programs && !box(at, options).facets) return new Fault(REFUSED, NO_FACETS);
+    return placed(fault);
+}
+
+// Beside the line that it does not fit the unit is asked for, as the command does.
+const no_fit = (size, { screen, unit }) => Object.assign(new Fault(REFUSED, no_fit_line(size, screen)),
+    is_odd(size) ? { place: unit_line(size, unit) } : {});
+
+// The box of the part's facets, which come first in a shape.
+function box(at, { unit }) {
+    must(ask("stlslice_box", big(at), big(file.length), unit, big(places.shape), big(places.line), big(LINE)));
+    return corners_told();
 }
 
 // The fields of the library's options have four bytes each.
@@ -137,10 +157,13 @@ function put_options({ pitch = 0, layer, rule, unit, grid, screen }) {
     fields.forEach((it, i) => options.setInt32(places.options + 4 * i, it, true));
 }
 
+const whole_told = (at) => view().getInt32(places.shape + at, true);
+const long_told = (at) => size_at(places.shape + at);
+const corners_told = () => ({ facets: long_told(0), low: [8, 12, 16].map(whole_told), high: [20, 24, 28].map(whole_told) });
+
 function shape_told() {
-    const told = view(), whole = (at) => told.getInt32(places.shape + at, true), long = (at) => size_at(places.shape + at);
-    return { facets: long(0), low: [8, 12, 16].map(whole), high: [20, 24, 28].map(whole), columns: whole(32), rows: whole(36),
-        layers: whole(40), origin: [44, 48, 52].map(whole), pitch: whole(56), layer: whole(60), times: [64, 72].map(long) };
+    const [columns, rows, layers, x, y, z, pitch, layer] = [32, 36, 40, 44, 48, 52, 56, 60].map(whole_told);
+    return { ...corners_told(), columns, rows, layers, origin: [x, y, z], pitch, layer, times: [64, 72].map(long_told) };
 }
 
 const row_bytes = () => shape.columns + 7 >> 3;
@@ -207,7 +230,7 @@ const png_of = (k, depth, mirrors) => written("png", (at, room) =>
     ask("stlslice_png", big(places.mesh), k, depth, mirrors, at, room, big(places.size)));
 const png = ({ k, mirrors }) => new Blob([png_of(k, 1, mirrors)], { type: "image/png" });
 
-const calls = { start, read, open, layer, areas, png, begin_zip, add_layers, whole_zip };
+const calls = { start, read, open, layer, areas, png, begin_zip, add_layers, whole_zip, end_zip };
 
 async function answer({ id, call, value }) {
     moved.length = 0;

@@ -6,7 +6,7 @@
         print(mesh.shape)               # layers, rows, columns
         mask = mesh[120]                # layer 120: a numpy array of bool, rows by columns
         some = mesh[100:140:2]          # layers as one array of three dimensions
-        for mask in mesh:               # all of them, eight at a time behind the scenes
+        for mask in mesh:               # all of them, from the lowest up
             ...
         mesh.png(120)                   # the layer as PNG: bytes
         mesh.area(120)                  # how many pixels of the layer are filled

@@ -20,7 +20,7 @@ use layer_png::{Depth, Mirrors, write_png};
 use raster::{Filler, Page, Rule, Span, area, fill, image_len};
 use std::alloc::{AllocError, Allocator};
 
-/// The segments of layer k of a job, by a sweep that starts at its plane: so it looks at few facets beside those that it cuts.
+/// The segments of layer k of a job, by a sweep that starts at its plane: it looks at no facet of a block that ends below it.
 fn segments_of_layer<A: Allocator + Copy + Send + Sync>(
     alloc: A,
     job: &Job<A>,

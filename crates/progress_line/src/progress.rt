@@ -1,5 +1,7 @@
 //! How far slicing is, shown on standard error: the layers that are made, then the bytes of their images, or the PNGs, that
 //! are written.
+ghost use Rattle.std.specs.Prelude.{◌≡◌};
+
 use crate::png_count::PngCount;
 use build_book::Piece;
 use layer_pool::Gate;
@@ -7,6 +9,7 @@ use raster::image_len;
 use std::alloc::Allocator;
 use std::fmt::{self, Display, Formatter};
 use std::io::{self, Write};
+use std::marker::Model;
 use std::sync::{Mutex, Wait};
 use std::time::{Clock, Instant};
 use task_words::Task;
@@ -262,9 +265,17 @@ pub struct ProgressWriter<'p, 'r, W, R> {
     pngs: PngCount,
 }
 
+impl<'p, 'r, W, R> Model for ProgressWriter<'p, 'r, W, R> {
+    ghost Value = { W };
+
+    ghost view = { λ writer. writer.to };
+}
+
 impl<'p, 'r, W, R> ProgressWriter<'p, 'r, W, R> {
     /// A writer to `to`, of which nothing was written yet.
-    pub fn new(to: W, progress: &'p Progress<'r, R>) -> ProgressWriter<'p, 'r, W, R> {
+    pub fn new(to: W, progress: &'p Progress<'r, R>) -> ProgressWriter<'p, 'r, W, R>
+        ensures { result ≡ to }
+    {
         ProgressWriter {
             to,
             progress,
@@ -274,6 +285,8 @@ impl<'p, 'r, W, R> ProgressWriter<'p, 'r, W, R> {
 }
 
 impl<'p, 'r, W: Write, R: Clock + Eprint + Wait> Write for ProgressWriter<'p, 'r, W, R> {
+    ghost contents = { W.contents };
+
     fn write(&mut self, buf: &[u8]) -> io::Result<usize> {
         let Some(images) = self.progress.writing else {
             return self.to.write(buf);

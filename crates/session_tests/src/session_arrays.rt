@@ -1,5 +1,6 @@
 //! Sessions of arrays: the answer is that of the text of the same facets, each fault names the first triangle that has one, and
 //! memory that fails is told.
+use crate::session_binaries::is_binary_as_text;
 use crate::session_chunks::are_answers_same;
 use crate::sessions::{fitted, reads};
 use layer_session::{ArrayFault, Session, SessionFault, Setup};
@@ -49,7 +50,11 @@ fn triangles_of(alloc: Global, parts: &[Part<'_>]) -> Result<Vec<[u32; 3]>, Allo
 }
 
 /// Whether arrays and the text of the same facets have the same answer.
-fn is_as_text(alloc: Global, parts: &[Part<'_>], setup: &Setup) -> Result<bool, AllocError> {
+fn are_arrays_as_text(
+    alloc: Global,
+    parts: &[Part<'_>],
+    setup: &Setup,
+) -> Result<bool, AllocError> {
     let points = points_of(alloc, parts)?;
     let triangles = triangles_of(alloc, parts)?;
     let text = text_of(alloc, parts)?;
@@ -59,7 +64,7 @@ fn is_as_text(alloc: Global, parts: &[Part<'_>], setup: &Setup) -> Result<bool, 
 }
 
 #[test]
-fn arrays_are_as_their_text(rt: HostRuntime) {
+fn arrays_and_binary_files_are_as_their_text(rt: HostRuntime) {
     let alloc = rt.alloc();
     let open_box: &[Part] = &[(CORNERS, &BOX[1..])];
     for parts in [
@@ -74,9 +79,13 @@ fn arrays_are_as_their_text(rt: HostRuntime) {
         &[],
     ] {
         for rule in [Rule::EvenOdd, Rule::NonZero, Rule::Positive] {
-            assert!(rt; is_as_text(alloc, parts, &fitted(1, rule)) == Ok(true));
+            let setup = fitted(1, rule);
+            assert!(rt; are_arrays_as_text(alloc, parts, &setup) == Ok(true));
+            assert!(rt; is_binary_as_text(alloc, parts, &setup) == Ok(true));
         }
-        assert!(rt; is_as_text(alloc, parts, &fitted(0, Rule::NonZero)) == Ok(true));
+        let without_size = fitted(0, Rule::NonZero);
+        assert!(rt; are_arrays_as_text(alloc, parts, &without_size) == Ok(true));
+        assert!(rt; is_binary_as_text(alloc, parts, &without_size) == Ok(true));
     }
 }
 

@@ -11,10 +11,7 @@ use short_memory::ShortMemory;
 use std::alloc::{AllocError, Allocator, Global};
 use std::test::Fail;
 use stl_text::{StlFault, Word, read_stl};
-use test_meshes::{
-    BOX, CORNERS, CUBE, CUBE_AND_FLAT, HOLLOW_CUBE, OCTAHEDRON, ONE_INWARD, Part, SHEET, TWO_CUBES,
-    facets_of, text_of,
-};
+use test_meshes::{CUBE, Part, TWO_CUBES, facets_of, text_of};
 
 /// 0 to 8 thousandths in single precision.
 const THOUSANDTHS: [u32; 9] = [
@@ -82,7 +79,11 @@ fn are_layers_same(one: &Session<Global>, other: &Session<Global>) -> Result<boo
 }
 
 /// Whether a binary STL and the text of the same facets have the same answer.
-fn is_as_text(alloc: Global, parts: &[Part<'_>], setup: &Setup) -> Result<bool, SessionFault> {
+pub(crate) fn is_binary_as_text(
+    alloc: Global,
+    parts: &[Part<'_>],
+    setup: &Setup,
+) -> Result<bool, SessionFault> {
     let bytes = binary_of_parts(alloc, parts)?;
     let text = text_of(alloc, parts)?;
     let found = Session::open(alloc, bytes.as_slice(), setup);
@@ -93,28 +94,6 @@ fn is_as_text(alloc: Global, parts: &[Part<'_>], setup: &Setup) -> Result<bool, 
     match (&found, &told) {
         (Ok(one), Ok(other)) => are_layers_same(one, other),
         _ => Ok(true),
-    }
-}
-
-#[test]
-fn binary_files_are_as_their_text(rt: HostRuntime) {
-    let alloc = rt.alloc();
-    let open_box: &[Part] = &[(CORNERS, &BOX[1..])];
-    for parts in [
-        CUBE,
-        CUBE_AND_FLAT,
-        TWO_CUBES,
-        ONE_INWARD,
-        HOLLOW_CUBE,
-        OCTAHEDRON,
-        SHEET,
-        open_box,
-        &[],
-    ] {
-        for rule in [Rule::EvenOdd, Rule::NonZero, Rule::Positive] {
-            assert!(rt; is_as_text(alloc, parts, &fitted(1, rule)) == Ok(true));
-        }
-        assert!(rt; is_as_text(alloc, parts, &fitted(0, Rule::NonZero)) == Ok(true));
     }
 }
 

@@ -14,8 +14,8 @@ import zipfile
 from fractions import Fraction
 from types import SimpleNamespace
 
-from common import IDLE, ROOT, SECONDS, example, field_of, holds, same
-from files import binary_of, gear, turned_out
+from common import ROOT, example, field_of, holds, same
+from files import binary_of, gear
 from measure import place
 
 sys.path.append(os.path.join(ROOT, "commands"))
@@ -44,8 +44,8 @@ def cases(room):
         (bracket, {**screen(540, 210, "610"), "height": 3330, "unit": 2},
          ["--canvas", "540x210", "--pitch", "610", "--layer", "3330", "--unit", "cm"]),
         (supported, {**screen(11520, 5120, "19"), "height": 500}, ["--canvas", "11520x5120", "--pitch", "19", "--layer", "500"]),
-        (supported, {**screen(11520, 5120, "19", "24"), "height": 500, "mirror_y": True, "turn": True},
-         ["--canvas", "11520x5120", "--pitch", "19x24", "--layer", "500", "--mirror-y", "--turn"]),
+        (supported, {**screen(11520, 5120, "19", "24"), "height": 500, "mirror_x": True, "mirror_y": True, "turn": True},
+         ["--canvas", "11520x5120", "--pitch", "19x24", "--layer", "500", "--mirror-x", "--mirror-y", "--turn"]),
         (binary, {"printer": "SL1S", "height": 500}, ["--printer", "SL1S", "--layer", "500"]),
         (ring, {"printer": "SL1S", "height": 400, "rule": 1}, ["--printer", "SL1S", "--layer", "400", "--rule", "nonzero"]),
     ]
@@ -150,21 +150,15 @@ def try_pngs(page, room, program):
             with open(os.path.join(folder, name), "rb") as file:
                 same(found.read(name), file.read(), name)
     shutil.rmtree(folder)
-
-
-def try_stop(page):
-    """Saving can be stopped, and the part is still there; a part that is chosen meanwhile ends it too."""
-    opened_in(page, example("supported"), {**screen(11520, 5120, "19"), "height": 10})
-    for name in os.listdir(page.browser.saved):
-        os.remove(os.path.join(page.browser.saved, name))
-    for ending in ("by('stop').click()", "by('width').value = 20; by('form').dispatchEvent(new Event('change'))"):
-        page.value("by('save_archive').click()")
-        page.until("!by('busy').hidden && parseFloat(by('done').style.width) > 0", SECONDS)
-        holds("layers are shown meanwhile", page.value("by('layer').value = 7; show().then(() => shown.k)") == 7)
-        page.value(f"{ending}; 0")
-        page.until(f"!save_all.is_running() && {IDLE}")
-        same(os.listdir(page.browser.saved), [], "what was saved")
-        holds("the part is still there", page.value("opened !== null && by('fault').hidden"))
+    page.load()
+    page.set(500, 1000)
+    page.take(example("bracket"))
+    with open(example("bracket"), "rb") as text:
+        words = [program, "--pitch", "500", "--layer", "1000", "--rule", "positive", "--png", "--depth", "8"]
+        stream = subprocess.run(words, stdin=text, stdout=subprocess.PIPE, check=True).stdout
+    with zipfile.ZipFile(page.saved("bracket_pngs.zip", "save_pngs")) as found:
+        same(found.namelist(), [f"{k:05}.png" for k in range(27)], "the names of PNGs without a printer")
+        same(b"".join(map(found.read, found.namelist())), stream, "PNGs without a printer")
 
 
 def try_wrong_fields(page):
@@ -173,20 +167,9 @@ def try_wrong_fields(page):
     page.value("by('save_archive').click()")
     page.until("document.activeElement.id === 'exposure' && by('exposure').checkVisibility()")
     same(page.value("save_all.is_running()"), False, "whether it is saved")
+    os.remove(page.saved("bracket_pngs.zip", "save_pngs"))  # which has no exposures
     page.value("by('exposure').value = ''; by('archive').dispatchEvent(new Event('change'))")
     os.remove(page.saved("bracket.sl1", "save_archive"))
-
-
-def try_dark(page, room):
-    """An archive of which no pixel is lit is refused, as by the command."""
-    with open(example("bracket"), "rb") as file:
-        text = turned_out(file.read())
-    path = os.path.join(room, "dark.stl")
-    with open(path, "wb") as file:
-        file.write(text)
-    opened_in(page, path, {**screen(100, 100, "500"), "height": 500})
-    page.value("by('save_archive').click()")
-    page.until("by('warnings').textContent.includes('dark.sl1 is not saved: no pixel is lit')")
 
 
 def numbers():
@@ -226,7 +209,7 @@ def try_settings(page):
         volume = float(lit * sides[0] * sides[1] * given.layer / 10 ** 12)
         sliced = SimpleNamespace(given=given, layers=layers, lit=lit, millilitres=lambda _, volume=volume: volume)
         slow, job = draw.randint(0, layers), sl1.job_name("out of \u00e9.sl1")
-        material = draw.choice(["", "  a\tb ", "Gr\u00fcn \x7f\u0085x"])
+        material = draw.choice(["", "  a\tb ", "Gr\u00fcn \x7f\u0085x", "a\ufeff b \ufeff"])
         given.material = sl1.one_line(material)
         texts = [sl1.settings(sliced, job, slow, sl1.print_time(given, layers, slow), sl1.time.gmtime(MOMENT)), sl1.profile(given)]
         wanted.append(["".join(f"{key} = {value}\n" for key, value in sorted(it.items())) for it in texts])
@@ -242,9 +225,7 @@ def try_settings(page):
 def try_all(page, room, program, every):
     told = try_archives(page, room, program, every)
     try_pngs(page, room, program)
-    try_stop(page)
     try_wrong_fields(page)
-    try_dark(page, room)
     try_numbers(page)
     try_settings(page)
     return told

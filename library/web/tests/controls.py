@@ -1,10 +1,10 @@
-"""The page's controls, used as by hand: slider, keys, wheel, plot, screens, wrong fields, hints, saving, examples."""
+"""The page's controls, used as by hand: slider, keys, wheel, plot, screens, hints, examples."""
 
 import base64
 import os
 import subprocess
 
-from common import CHANGED, IDLE, PHONE, area_of, example, holds, images_of, same, script
+from common import IDLE, PHONE, area_of, example, holds, images_of, same, script
 from looks import broken
 
 SIGNATURE = b"\x89PNG\r\n\x1a\n"
@@ -128,14 +128,17 @@ def try_screen(page, program):
          "the images on a screen")
     try_mirrors(page, images[60], columns=517)
     try_places(page)
-    page.value("by('mirror_x').checked = true; save()")
+    try_outlines(page)
+    page.change(width="100", depth="100", turn=False, columns=517, rows=303)
+    page.until(f"{IDLE} && opened.columns === 517 && opened.sides[1] === 100")
+    page.value("by('mirror_y').checked = false; by('mirror_x').checked = true; save()")
     same_png(page, program, 60, 100, "--mirror-x", grid)
     page.value("by('mirror_x').checked = false")
     page.change(rows=10)
     page.until("!by('fault').hidden")
     same([page.text("fault_line"), page.text("fault_place")],
-         ["part does not fit: 31964 x 12000 micrometres on a screen of 51700 x 1000; turned by a quarter it does not fit either",
-          "On this screen the part is 31.964 × 12.000 mm, and the screen 51.700 × 1.000 mm."], "the fault of a part that is too large")
+         ["the part doesn't fit: it is 31.964 x 12.000 x 27.000 mm, the canvas 51.700 x 1.000 mm", ""],
+         "the fault of a part that is too large")
     page.change(columns=200, rows=400)
     page.until("by('fault_place').textContent.includes('It fits if it is turned by a quarter')")
     page.change(turn=True)
@@ -167,8 +170,44 @@ def try_places(page):
         for pixel, axis, side in (("450 + 10, 475", right, width), ("450, 475 + 10", up, depth)):
             moved = [round(now - before, 6) for now, before in zip(page.value(f"place_of({pixel})"), middle)]
             same(moved, [10 * float(side) * it for it in axis], f"ten pixels in the part, {turn}")
-    page.change(width="100", depth="100", turn=False, columns=517, rows=303)
-    page.until(f"{IDLE} && opened.columns === 517 && opened.sides[1] === 100")
+
+
+# Pixels whose middles the outlines enclose on the canvas though the image has them empty, or the other way round
+OUTLINED = """(async (bits) => {
+    const { stroke } = CanvasRenderingContext2D.prototype, pen = by("image").getContext("2d"), paths = [], { columns, rows } = opened;
+    let at = null;
+    CanvasRenderingContext2D.prototype.stroke = function (path) {
+        paths.push(path);
+        at = this.getTransform();
+        stroke.call(this, path);
+    };
+    draw();
+    CanvasRenderingContext2D.prototype.stroke = stroke;
+    const { across, down, left, top } = framed(), { x, y } = mirrors_now(), stride = columns + 7 >> 3, wrong = [];
+    pen.setTransform(at);
+    let lit = 0;
+    for (let j = 0; j < rows; j++)
+        for (let i = 0; i < columns; i++) {
+            const there = [left + ((x ? columns - 1 - i : i) + 0.5) * across, top + ((y ? rows - 1 - j : j) + 0.5) * down];
+            const is_lit = (bits[j * stride + (i >> 3)] << (i & 7) & 128) > 0;
+            lit += is_lit;
+            if (paths.filter((it) => pen.isPointInPath(it, ...there)).length % 2 !== Number(is_lit)) wrong.push([i, j]);
+        }
+    return [lit, wrong.length];
+})"""
+
+
+def try_outlines(page):
+    """Outlines lie on the canvas where the image has the part, on a screen that is turned, mirrored and stretched too."""
+    page.value("by('outlines').checked = true; go(60)")
+    for mirrors in ((False, False), (True, False), (False, True)):
+        page.value("[by('mirror_x').checked, by('mirror_y').checked] = [%s, %s]; 0" % tuple(str(it).lower() for it in mirrors))
+        for turn in (False, True):
+            page.change(width="190", depth="240", columns=201, rows=174, turn=turn)
+            page.until(f"{IDLE} && opened.rows === 174 && by('turn').checked === (opened.options.screen.turn === 1)")
+            k = page.k()
+            lit, wrong = page.value(f"{OUTLINED}({page.in_worker(f'[...bits_of({k})]')})")
+            holds(f"{wrong} of {lit} pixels lie on the other side of the outlines", lit > 1000 and wrong <= lit // 500)
 
 
 # Whether the canvas shows a pixel of the image as filled, when it is near and in the middle
@@ -204,34 +243,6 @@ def try_large_screen(page, program):
         same(page.value(NEAR % (column, row)), line[column] == "1", f"the pixel of column {column} near by")
 
 
-def at_openings(page, *scripts):
-    """Runs a script at each of the next openings, just before the worker is asked for it."""
-    page.value("""(() => {
-        const scripts = [%s];
-        slicer.call = (...words) => {
-            if (words[0] === "open") scripts.shift()?.();
-            return Slicer.prototype.call.apply(slicer, words);
-        };
-    })()""" % ", ".join(f"() => {{ {it} }}" for it in scripts))
-
-
-def try_wrong_fields(page):
-    """A wrong field stops nothing when it is hidden. While it is seen nothing is opened, even if it became wrong meanwhile."""
-    page.load()
-    page.set(100, 100)
-    page.take(example("bracket"))
-    page.change(printer="own", columns="", width="0.0")
-    page.change(printer="", height=200)
-    page.until(f"{IDLE} && opened.options.layer === 200")
-    same(page.value("by('form').autocomplete"), "off", "what a browser restores of the form")
-    at_openings(page, f"by('pitch').value = ''; {CHANGED}")
-    page.change(height=300)
-    page.until("!slice.is_running()")
-    same(page.value("[opened?.options.layer, by('fault').hidden]"), [300, True], "the mesh, and the fault of a field that is cleared")
-    page.change(pitch=50)
-    page.until(f"{IDLE} && opened.options.pitch === 50")
-
-
 def try_hints(page, room):
     """With a fault shown the keys scroll its hints."""
     page.load(PHONE)
@@ -246,26 +257,6 @@ def try_hints(page, room):
         page.browser.ask("Input.dispatchKeyEvent", type="keyUp", key=key, code=key, windowsVirtualKeyCode=code)
     same(page.value("['image', 'plot', 'busy_words', 'fault'].map((id) => by(id).role)"), ["img", "img", "status", "alert"],
          "what the page's parts are")
-
-
-def try_saving(page, program):
-    """A layer that is saved has the program's bytes; if another mesh is opened meanwhile, the file is of that."""
-    page.load()
-    page.set(100, 100)
-    page.take(example("bracket"))
-    page.value("go(20)")
-    same(page.k(), 20, "layer")
-    page.value("document.activeElement.blur()")
-    page.browser.key("s", "KeyS", "s")
-    same_png(page, program, 20, 100)
-    # layer 31 of the mesh before is as high as layers 15 and 7 of these
-    page.value("go(31)")
-    same(page.k(), 31, "layer")
-    at_openings(page, f"by('height').value = 400; {CHANGED}; queueMicrotask(save)", "save()")
-    page.change(height=200)
-    same_png(page, program, 15, 200)
-    page.until(f"{IDLE} && opened.options.layer === 400")
-    same_png(page, program, 7, 400)
 
 
 def same_png(page, program, k, layer, *more):
@@ -294,7 +285,5 @@ def try_all(page, room, program):
     try_drop(page)
     try_screen(page, program)
     try_large_screen(page, program)
-    try_wrong_fields(page)
     try_hints(page, room)
-    try_saving(page, program)
     try_demos(page)

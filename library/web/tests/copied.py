@@ -50,7 +50,7 @@ def try_other_units(page, program):
     same(words, "stlslice-page --pitch 2000 --layer 5000 --rule positive --unit cm bracket.stl bracket.html".split(), "the command for cm")
     made = os.path.join(page.browser.saved, words[-1])
     ran = ran_command(program, words[0], *words[1:-2], example("bracket"), made)
-    holds(f"{ran.stdout} has the page's volume", f"{made}: 54 layers, {page.value('millilitres(sum(areas))')} ml" in ran.stdout)
+    holds(f"{ran.stdout} has the page's volume", f"{made}: 54 layers, {page.value('fixed(volume(sum(areas)), 3)')} ml" in ran.stdout)
     os.remove(made)
     page.change(unit=3, pitch=50000, height=50000)
     page.until(f"{IDLE} && opened.options.unit === 3")
@@ -61,10 +61,10 @@ def try_copy(page):
     """It is said whether the command was copied."""
     page.value(CLIPBOARD)
     page.value("by('copy').click()")
-    page.until("by('copied').textContent === 'copied'")
+    page.until("by('said').textContent === 'copied'")
     same(page.value("clip"), page.text("command").strip(), "what was copied")
     page.value("navigator.clipboard.writeText = async () => { throw new Error('denied'); }; by('copy').click()")
-    page.until("by('copied').textContent.startsWith('not copied')")
+    page.until("by('said').textContent.startsWith('not copied')")
     same(page.value("getSelection().toString()"), page.text("command"), "what is marked then")
 
 
@@ -116,7 +116,7 @@ def try_names(page, room, program):
     for name in ("z.html", "Z.HTML", "b's.stl"):
         try_made(page, folder, program, name, binary_of(facets_of("bracket")), lambda made: holds(made, b"<html" in read(made)))
     page.change(printer="own", columns=400, rows=200, width="100", depth="100")
-    for name in ("y.sl1", "Y.SL1", "b's.stl"):
+    for name in ("y.sl1", "Y.SL1", "b's.stl", "caf\u00e9.stl"):
         try_made(page, folder, program, name, data,
                  lambda made: same_archive(page.saved(os.path.basename(made), "save_archive"), made, made))
     os.rmdir(folder)

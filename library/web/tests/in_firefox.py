@@ -1,10 +1,12 @@
-"""The page in Firefox: layers and faults beside the program's, its keys, and what it saves."""
+"""The page in Firefox: layers and faults beside the program's, its keys, what it saves, numbers that it refuses, and Stop."""
 
 import os
 
 import archives
 import firefox
 import layers
+import refusals
+import stops
 from common import DESK, IDLE, Page, example, holds, same
 
 # What lets the tests look into page and worker
@@ -53,4 +55,5 @@ def try_all(path, room, program, every, stlslice):
         try_keys(page)
         told = layers.compare(page, every[::9], stlslice)
         saved = archives.try_all(page, room, program, archives.cases(room))
-    return f"Firefox: {told}; {saved}"
+        numbers, kept = refusals.try_fields(page, room, program), stops.try_all(page)
+    return f"Firefox: {told}; {saved}; {numbers} numbers refused with the lines of stlslice-sl1; {kept}"

@@ -8,7 +8,7 @@ from common import IDLE, PHONE, example, same, script
 # The windows of people, and the same at 200 %: half as wide and high, with two dots for each pixel along a side
 WINDOWS = {"desk": ((1440, 900), 1), "laptop": ((1024, 700), 1), "phone": (PHONE, 1),
            "desk_200": ((720, 450), 2), "laptop_200": ((512, 350), 2), "phone_200": ((195, 422), 2)}
-STATES = 12
+STATES = 13
 DENIED = "Object.defineProperty(navigator, 'clipboard', { configurable: true, value: undefined }); 0"
 
 
@@ -37,7 +37,8 @@ def other_kind(room):
 
 def try_states(page, room, folder, name):
     """The empty page, a part, a file that is dragged over it, a part on a printer's screen, with exposures for other layers, with a
-    copy that failed, on another screen, below it the rest of the page, saving with a warning, stopped, a fault, a file that is no STL."""
+    copy that failed, on another screen, below it the rest of the page, saving with a warning, the same after
+    Stop, an opening that was stopped, a fault, a file that is no STL."""
     look(page, folder, f"{name}_empty")
     page.set(50, 50)
     page.take(example("supported"))
@@ -63,9 +64,12 @@ def try_states(page, room, folder, name):
     look(page, folder, f"{name}_settings")
     page.value("document.querySelector('aside').scrollTop = 0; scrollTo(0, 0); by('busy').hidden = false; tell_progress(120, 640);"
                "by('busy_words').textContent = 'Saving supported.sl1';"
-               "warn('A shell is inside out somewhere: 2.376 ml by positive, 6.556 ml by nonzero; look at the layers.')")
+               "warn(inside_out_line(2.376, 6.556))")
     look(page, folder, f"{name}_saving")
-    page.value("end_wait(); by('stop').click()")
+    page.value("by('busy').hidden = true; tell_progress(); part.is_back = true; warn_first(); say('stopped: supported.sl1 is not saved')")
+    look(page, folder, f"{name}_back")
+    page.value("opened = null; slice(); stop()")
+    page.until(IDLE)
     look(page, folder, f"{name}_stopped")
     page.take(broken(room))
     look(page, folder, f"{name}_fault")
@@ -82,7 +86,7 @@ def try_words(page, folder, name):
     look(page, folder, f"{name}_exposure")
     page.value(DENIED)
     page.value("by('copy').scrollIntoView({ block: 'center' }); by('copy').click()")
-    page.until("by('copied').textContent")
+    page.until("by('said').textContent")
     look(page, folder, f"{name}_not_copied")
     page.value("getSelection().removeAllRanges(); document.querySelector('aside').scrollTop = 0; scrollTo(0, 0)")
     page.change(height=50)

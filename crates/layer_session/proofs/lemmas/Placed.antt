@@ -94,7 +94,7 @@ pub open-ends : (p : Place) (facets : List Facet) (u v : Point) (there back : �
 open-ends (place.Grid pitch placing) facets u v there back h = ((u, refl), (v, refl))
 open-ends (place.Screen s) facets u v there back h = on-screen-ends s facets u v there back h
 
-pub point-apart : (p : Place) (u v : Point) → HasPitch p → point_placed p u ≡ point_placed p v → u ≡ v
+point-apart : (p : Place) (u v : Point) → HasPitch p → point_placed p u ≡ point_placed p v → u ≡ v
 point-apart (place.Grid pitch placing) u v is e = e
 point-apart (place.Screen s) u v is e = points-stay-apart s u v is e
 

@@ -14,7 +14,7 @@ use Rattle.layer_session.specs.declared.session_fault.SessionFault.{SessionFault
 use Rattle.layer_session.specs.declared.session_fault.SessionFault.TheVariants as fault
 use Rattle.layer_session.specs.declared.setup.Setup.{Setup}
 
-pub no-solid-told : (setup : Setup) (input : Input) (facets : List Facet) (f : SessionFault) → HasSteps setup → IsReadAs setup input facets
+no-solid-told : (setup : Setup) (input : Input) (facets : List Facet) (f : SessionFault) → HasSteps setup → IsReadAs setup input facets
     → IsNoSolidAt setup.place facets f → IsOpenFault setup input f
 no-solid-told setup input facets f range reads (inl (e, out)) =
     subst (λ (x : SessionFault). IsOpenFault setup input x) (sym e) (range, inl (facets, reads, inl (refl, out)))

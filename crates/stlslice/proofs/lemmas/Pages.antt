@@ -35,7 +35,7 @@ range-parts f a (suc m) n =
     ∙ ap (λ (l : List ℕ). l ++ flat_map f (range_with_len (a + suc m) n)) (sym (flat_map-cons f a (range_with_len (a + 1) m)))
 
 -- images up to a layer, and those from it on
-pub images-parts : (f : ℕ → List ℕ) (a b c : ℕ) → a ≤ b → b ≤ c → images_between f a c ≡ images_between f a b ++ images_between f b c
+images-parts : (f : ℕ → List ℕ) (a b c : ℕ) → a ≤ b → b ≤ c → images_between f a c ≡ images_between f a b ++ images_between f b c
 images-parts f a b c low high =
     let size : c - a ≡ (b - a) + (c - b) = omega (arith, low, high) in
     let next : a + (b - a) ≡ b = omega (arith, low) in
@@ -44,7 +44,7 @@ images-parts f a b c low high =
     ∙ ap (λ (n : ℕ). flat_map f (range_with_len a (b - a)) ++ flat_map f (range_with_len n (c - b))) next
 
 -- the first of some images
-pub images-first : (f : ℕ → List ℕ) (a b : ℕ) → a < b → images_between f a b ≡ f a ++ images_between f (a + 1) b
+images-first : (f : ℕ → List ℕ) (a b : ℕ) → a < b → images_between f a b ≡ f a ++ images_between f (a + 1) b
 images-first f a b h =
     let more : b - a ≡ suc (b - (a + 1)) = omega (arith, h) in
     ap (λ (n : ℕ). flat_map f (range_with_len a n)) more

@@ -58,7 +58,7 @@ put-on old now new before_it after text before written total part rest h put =
     (sym (drop_all (total - written) part (omega (arith, size))))
 
 -- it can't be put
-pub put-failed : (f : WriteFault) (sink : Transcript) (now : Option (List ℕ)) (count : ℕ) (text : List ℕ) (before written : ℕ) (part rest : List ℕ)
+put-failed : (f : WriteFault) (sink : Transcript) (now : Option (List ℕ)) (count : ℕ) (text : List ℕ) (before written : ℕ) (part rest : List ℕ)
     → IsUnderWay sink.old now text before written part rest → count ≡ sink.failed_before
     → IsPut (Err f) (transcript now sink.new count sink.failed) part written → IsPut (Err f) sink text before
 put-failed f sink now count text before written part rest h same put =
