@@ -21,9 +21,8 @@ MB = 1_000_000
 LENGTH = 2_000 * MB
 # what the program may take, in bytes: --box holds a window of the text, several workers hold two rounds
 ROOM, BOX_ROOM = 20 * MB, 4 * MB
-# the seconds within which two times aren't told apart, and how often a text is tried: what else the machine does can only make a
-# run longer
-NOISE, TRIES = 0.02, 3
+# the seconds within which two times aren't told apart, and how often a text is tried: what else the machine does makes runs longer
+NOISE, TRIES = 0.3, 3
 SLICE = ["--pitch", "100", "--layer", "1000"]
 
 CUBE = box((0, 0, 0), (1, 1, 1))

@@ -10,7 +10,7 @@ from long_texts import texts, try_all, try_text
 ALONE = True
 PART = 50
 # A program that takes this many seconds of processor time for the whole text, and a sixteenth of them for a quarter.
-SECONDS = 1
+SECONDS = 2
 SLOW = """#!{python} -SE
 import sys, time
 length = 0
