@@ -93,6 +93,7 @@ def main():
     words += ["--antt-project", f"{kit}/rattle/logic/antt-project.json", "--logic-built", f"{kit}/logic_built"]
     with tempfile.TemporaryDirectory(prefix="stlslice-library-") as room:
         words += ["--crate-type", "staticlib", "--toolchain", toolchain_of_links(f"{kit}/toolchain", room), "-o", archive]
+        words += ["--jobs", str(min(4, len(os.sched_getaffinity(0))))]
         must(f"{kit}/bin/rattle", "build", *words, cwd=folder)
         modules = os.listdir(f"{room}/modules")
         if len(modules) != 1:
