@@ -1,15 +1,15 @@
 //! A sweep raises a plane through a mesh. It keeps the list of active facets, as a scanline fill of polygons keeps active
 //! edges. So a step up looks only at facets that were active before it, and at facets whose lowest corner it passes. A sweep
 //! starts at any height: of the facets below, it looks only at those in blocks that reach above the height.
-ghost use Rattle.std.specs.Prelude.{◌≡◌, ◌<◌, ◌≤ℤ◌, All, IfOk, OnErr, OnOk, filter_map, length};
+ghost use Rattle.std.specs.Prelude.{◌≡◌, ◌≤ℤ◌, All, IfOk, OnErr, OnOk};
 ghost use Rattle.exact_int.specs.Bounds.{IsAtMost};
-ghost use Rattle.plane_segments.specs.Segment.{HasOrderedNodes, numbered_segment, segments};
+ghost use Rattle.plane_segments.specs.Segment.{HasOrderedNodes, segments};
 ghost use Rattle.contour.specs.Active.{active_facets, reached_count};
 ghost use Rattle.geometry.specs.declared.limits.TheConstants.{CENTRE_LIMIT};
 
 use crate::active::{ActiveFacets, Arrivals};
 use mesh_weld::Solid;
-use plane_segments::{Segment, segment_at};
+use plane_segments::{Segment, segments_in};
 use std::alloc::{AllocError, Allocator};
 use std::marker::Model;
 use std::mem::swap;
@@ -108,28 +108,7 @@ impl<'m, A: Allocator + Copy + Send + Sync> Sweep<'m, A> {
         ensures ordered { IfOk result (λ list. All HasOrderedNodes list.items) }
     {
         let numbers = self.active.numbers.as_slice();
-        let list = segments_of(self.alloc, self.solid, numbers, self.height)?;
+        let list = segments_in(self.alloc, self.solid, numbers, self.height)?;
         Ok(list)
     }
-}
-
-/// The segments of the facets with these numbers at the height `z2`, without those that the plane does not cut.
-fn segments_of<A: Allocator + Copy + Send + Sync>(
-    alloc: A,
-    s: &Solid<A>,
-    numbers: &[u32],
-    z2: i64,
-) -> Result<Vec<Segment, A>, AllocError>
-    requires numbers { All (λ n. n < length s.now.facets) numbers.now }
-    requires height { IsAtMost CENTRE_LIMIT z2 }
-    ensures segments { IfOk result (λ list. list.items ≡ filter_map (numbered_segment s.now.facets z2) numbers.now) }
-    ensures ordered { IfOk result (λ list. All HasOrderedNodes list.items) }
-{
-    let mut list = Vec::with_capacity(alloc, numbers.len())?;
-    for n in numbers {
-        if let Some(segment) = segment_at(s, *n, z2) {
-            list.push(segment)?;
-        }
-    }
-    Ok(list)
 }

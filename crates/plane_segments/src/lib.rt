@@ -7,7 +7,7 @@
 //!
 //! - [`Segment`]: the cut of one facet, from one [`Node`] to another. A node is an edge of the mesh, by the numbers of its
 //!   vertices; no coordinate of a cut is computed for it.
-//! - [`segment_at`], [`segments`]: the segment of one facet, and those of all facets, at one height.
+//! - [`segment_at`], [`segments_in`], [`segments`]: the segment of one facet, those of some, and those of all, at one height.
 //!
 //! Heights are in half-micrometres; their names end in `2`. The tie rule of `geometry` says which corners count as below a
 //! plane.
@@ -17,4 +17,4 @@ mod node;
 mod segment;
 
 pub use node::Node;
-pub use segment::{Segment, segment_at, segments};
+pub use segment::{Segment, segment_at, segments, segments_in};

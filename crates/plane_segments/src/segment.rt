@@ -1,15 +1,16 @@
 //! A segment is where a plane cuts a facet. It runs between edges of the mesh and not between points. So it is exact, and two
 //! segments meet exactly if they name the same edge.
-ghost use Rattle.std.specs.Prelude.{◌≡◌, ◌<◌, ◌↔◌, All, IfOk, IfSome, IsSome, length};
+ghost use Rattle.std.specs.Prelude.{◌≡◌, ◌<◌, ◌↔◌, All, IfOk, IfSome, IsSome, filter_map, length, map};
 ghost use Rattle.exact_int.specs.Bounds.{IsAtMost};
 ghost use Rattle.geometry.specs.Facet.{twice};
 ghost use Rattle.exact_cut.specs.Cut.{IsBetween};
 ghost use Rattle.mesh_weld.specs.Solid.{facet_at, vertices};
-ghost use Rattle.plane_segments.specs.Segment.{AreThreeNumbers, HasOrderedNodes, edge_node, segment_of, segments};
+ghost use Rattle.plane_segments.specs.Segment.{AreThreeNumbers, HasOrderedNodes, edge_node, numbered_segment, segment_of, segments};
 ghost use Rattle.geometry.specs.declared.limits.TheConstants.{CENTRE_LIMIT};
 
 use crate::node::Node;
 use exact_cut::cuts;
+use geometry::Facet;
 use mesh_weld::Solid;
 use std::alloc::{AllocError, Allocator};
 
@@ -33,10 +34,24 @@ pub fn segment_at<A: Allocator>(s: &Solid<A>, facet: u32, z2: i64) -> Option<Seg
     ensures some { IsSome result ↔ IsBetween (twice (facet_at s.now.facets facet)) z2 }
     ensures ordered { IfSome result HasOrderedNodes }
 {
-    let cut = cuts(&s.facet(facet), z2)?;
-    let corners = s.triples()[facet as usize];
+    segment_in(s, facet, &s.facet(facet), z2)
+}
+
+/// [`segment_at`] for a facet that was looked up.
+fn segment_in<A: Allocator>(s: &Solid<A>, number: u32, facet: &Facet, z2: i64) -> Option<Segment>
+    requires number { number < length s.now.facets }
+    requires facet { facet.now ≡ facet_at s.now.facets number }
+    requires height { IsAtMost CENTRE_LIMIT z2 }
+    ensures segment { result ≡ segment_of (vertices s.now.facets) z2 (record { 0 = number; 1 = facet_at s.now.facets number }) }
+    ensures some { IsSome result ↔ IsBetween (twice (facet_at s.now.facets number)) z2 }
+    ensures ordered { IfSome result HasOrderedNodes }
+{
+    // wakes the invariant: the corners of a kept facet are distinct
+    let _count = s.count();
+    let cut = cuts(facet, z2)?;
+    let corners = s.triples()[number as usize];
     Some(Segment {
-        facet,
+        facet: number,
         from: edge_node(&corners, cut.down),
         to: edge_node(&corners, cut.up),
     })
@@ -74,4 +89,45 @@ pub fn segments<A: Allocator + Copy + Send + Sync>(
         }
     }
     Ok(list)
+}
+
+/// The segments of the kept facets with these numbers at the height `z2` in half-micrometres, at most `geometry::CENTRE_LIMIT`
+/// from 0, in the order of the numbers. A facet that the plane does not cut has none. `Err` only if an allocation failed.
+///
+/// It looks up all facets first. They lie far apart in memory, so the waits for them overlap.
+pub fn segments_in<A: Allocator + Copy>(
+    alloc: A,
+    s: &Solid<A>,
+    numbers: &[u32],
+    z2: i64,
+) -> Result<Vec<Segment, A>, AllocError>
+    requires numbers { All (λ n. n < length s.now.facets) numbers.now }
+    requires height { IsAtMost CENTRE_LIMIT z2 }
+    ensures segments { IfOk result (λ list. list.items ≡ filter_map (numbered_segment s.now.facets z2) numbers.now) }
+    ensures ordered { IfOk result (λ list. All HasOrderedNodes list.items) }
+{
+    let facets = facets_in(alloc, s, numbers)?;
+    let mut list = Vec::with_capacity(alloc, numbers.len())?;
+    for (i, n) in numbers.iter().enumerate() {
+        if let Some(segment) = segment_in(s, *n, &facets[i], z2) {
+            list.push(segment)?;
+        }
+    }
+    Ok(list)
+}
+
+/// The kept facets with these numbers.
+fn facets_in<A: Allocator>(
+    alloc: A,
+    s: &Solid<A>,
+    numbers: &[u32],
+) -> Result<Vec<Facet, A>, AllocError>
+    requires { All (λ n. n < length s.now.facets) numbers.now }
+    ensures { IfOk result (λ facets. facets.items ≡ map (facet_at s.now.facets) numbers.now) }
+{
+    let mut facets = Vec::with_capacity(alloc, numbers.len())?;
+    for n in numbers {
+        facets.push(s.facet(*n))?;
+    }
+    Ok(facets)
 }

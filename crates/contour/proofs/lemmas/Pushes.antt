@@ -22,28 +22,6 @@ pushed_tops facets old now new xs i top read h before pushed e f =
 pub pushed_numbers : (old xs : List ℕ) (i : ℕ) → i < length xs → old ++ take (i + 1) xs ≡ (old ++ take i xs) ++ get_or xs i 0 ∷ []
 pushed_numbers old xs i h = ap (λ ns. old ++ ns) (take_more xs i 0 h) ∙ sym (append_assoc old (take i xs) (get_or xs i 0 ∷ []))
 
-filter_map_more : {X Y : Type 0} (h : X → Option Y) (xs : List X) (i : ℕ) (d : X) → i < length xs
-    → filter_map h (take (i + 1) xs) ≡ filter_map h (take i xs) ++ cons_option (h (get_or xs i d)) []
-filter_map_more h xs i d l =
-    ap (filter_map h) (take_more xs i d l) ∙ filter_map-append h (take i xs) (get_or xs i d ∷ [])
-
-pub picked-some : (facets : List Facet) (z : ℤ) (xs : List ℕ) (i : ℕ) (s : Segment) (old more new : List Segment) → i < length xs
-    → Some s ≡ segment_of (vertices facets) z (get_or xs i 0, facet_at facets (get_or xs i 0)) → new ≡ more → more ≡ old ++ s ∷ []
-    → old ≡ filter_map (numbered_segment facets z) (take i xs) → new ≡ filter_map (numbered_segment facets z) (take (i + 1) xs)
-picked-some facets z xs i s old more new l e is pushed before =
-    is ∙ pushed ∙ ap (λ ss. ss ++ s ∷ []) before
-    ∙ sym (filter_map_more (numbered_segment facets z) xs i 0 l
-    ∙ ap (λ o. filter_map (numbered_segment facets z) (take i xs) ++ cons_option o []) (sym e))
-
-pub picked-none : (facets : List Facet) (z : ℤ) (xs : List ℕ) (i : ℕ) (old new : List Segment) → i < length xs
-    → None ≡ segment_of (vertices facets) z (get_or xs i 0, facet_at facets (get_or xs i 0)) → new ≡ old
-    → old ≡ filter_map (numbered_segment facets z) (take i xs) → new ≡ filter_map (numbered_segment facets z) (take (i + 1) xs)
-picked-none facets z xs i old new l e same before =
-    same ∙ before
-    ∙ sym (filter_map_more (numbered_segment facets z) xs i 0 l
-    ∙ ap (λ o. filter_map (numbered_segment facets z) (take i xs) ++ cons_option o []) (sym e)
-    ∙ append-nil (filter_map (numbered_segment facets z) (take i xs)))
-
 -- ---- facets in order of their least heights: a loop over them; `height` is the value of the machine word that holds z
 pub starts_by-ends : (facets : List Facet) (z height : ℤ) (xs : List ℕ) (i : ℕ) → height ≡ z → i < length xs → starts_by facets height (get_or xs i 0) ≡ false
     → i + prefix_len (starts_by facets height) (drop i xs) ≡ prefix_len (starts_by facets height) xs → i ≡ prefix_len (starts_by facets z) xs

@@ -3,8 +3,8 @@ use Rattle.std.proofs.lemmas.Int.{to_z-of_z}
 use Rattle.contour.proofs.lemmas.Sweeps.{active_in, active_segments}
 use Rattle.contour.proofs.sweep.Sweep.segments.Goals as goal
 
-pub segments_of-requires-clause-numbers : goal.segments_of-requires-clause-numbers
-segments_of-requires-clause-numbers g c κs within =
+pub segments_in-requires-clause-numbers : goal.segments_in-requires-clause-numbers
+segments_in-requires-clause-numbers g c =
     rw (c.as_slice-numbers.ensures.value, c.self.invariant.active_is)
     (active_in c.self.inside.solid.now.facets c.self.inside.height)
 
