@@ -1,7 +1,6 @@
 """OBJ and 3MF as points in whole micrometres, and triangles of their indices. Each coordinate is rounded once, at the end."""
 
 import decimal
-import functools
 import io
 import itertools
 import re
@@ -127,7 +126,7 @@ def fan(points, corners):
 
 def is_fan(corners):
     """Whether a polygon is flat and convex, but for FLAT micrometres: all corners lie in a plane, each three in a row turn to the
-    left, and so do the triangles of the fan. Those of four corners are turns already."""
+    left, and so do the triangles of the fan."""
     first, triangles = corners[0], [(corners[0], *pair) for pair in zip(corners[1:], corners[2:])]
     turns = list(zip(corners, corners[1:] + corners[:1], corners[2:] + corners[:2]))
     normal = tuple(map(sum, zip(*(normal_of(*it) for it in triangles))))
@@ -139,7 +138,7 @@ def is_fan(corners):
         return left >= 0 or left ** 2 <= slack * dot(across, across)
 
     return (slack > 0 and all(dot(normal, minus(it, first)) ** 2 <= slack for it in corners)
-            and all(is_left(*it) for it in (turns if len(corners) == 4 else turns + triangles)))
+            and all(is_left(*it) for it in turns + triangles))
 
 
 def normal_of(a, b, c):
@@ -310,7 +309,6 @@ class Object:
             other.place([[dot(row, it) + (it[3] if k == 3 else 0) for k, row in rows] for it in columns], points, triangles)
 
 
-@functools.lru_cache(maxsize=256)
 def columns_of(text):
     """The three columns of a transform. By the first three numbers of each x, y and z are multiplied, and the last is added."""
     words = text.encode().split()

@@ -21,14 +21,14 @@ def run():
     refuse_if(not is_new, f"{folder} is there already")
     is_placed = os.path.islink(folder) or os.path.ismount(folder)
     refuse_if(is_placed, f"{folder} is a link or a mount point, in whose place no folder can be moved")
-    with aside(folder) as path:
-        os.mkdir(path)
-        from .slicing import Sliced  # only here, so that what is wrong is told at once
-        sliced = Sliced(given)
-        for number, (png, _) in enumerate(sliced.pngs()):
-            with named(folder), open(os.path.join(path, f"{number:05}.png"), "xb") as file:
-                file.write(png)
-        sliced.finish()
-        if os.name == "nt" and os.path.isdir(folder):   # Windows moves nothing in the place of an empty folder
-            os.rmdir(folder)
-        os.rename(path, folder)
+    path = aside(folder)
+    os.mkdir(path)
+    from .slicing import Sliced  # only here, so that what is wrong is told at once
+    sliced = Sliced(given)
+    for number, (png, _) in enumerate(sliced.pngs()):
+        with named(folder), open(os.path.join(path, f"{number:05}.png"), "xb") as file:
+            file.write(png)
+    sliced.finish()
+    if os.name == "nt" and os.path.isdir(folder):   # Windows moves nothing in the place of an empty folder
+        os.rmdir(folder)
+    os.rename(path, folder)

@@ -5,6 +5,7 @@ from array import array
 from collections import Counter
 
 from .faults import Progress, refuse_if
+from .parts import box_of
 
 LIMIT = 1_048_576 - 2  # facets of a group, beside the two that are put to it
 BLOCK = 1 << 16
@@ -39,8 +40,8 @@ def grouped(facets):
         found[group_of[shell]].extend(triangles[3 * at:3 * at + 3])
     # degenerate facets don't count for the place on a screen
     corners = (triangles[at:at + 3] for at in range(0, len(triangles), 3))
-    kept, last = {it for facet in corners if len(set(facet)) == 3 for it in facet} or {0}, len(points) // 3
-    low, high = (array("i", [end(points[3 * it + k] for it in kept) for k in range(3)]) for end in (min, max))
+    kept, last = {it for facet in corners if len(set(facet)) == 3 for it in facet}, len(points) // 3
+    low, high = (array("i", end) for end in box_of(points, kept)[1:])
     between = next((it for it in kept if points[3 * it:3 * it + 3] not in (low, high)), 0)
     points.extend(low + high)
     return points, found, array("I", [last, last + 1, between, last, between, last + 1])

@@ -4,7 +4,6 @@ line may be lost if a slab below it still runs. -S needs rsync, and ssh without 
 
 import argparse
 import contextlib
-import mmap
 import os
 import re
 import shutil
@@ -17,7 +16,7 @@ from functools import partial
 from shlex import quote
 
 from . import formats, words
-from .faults import BLOCK, Refused, aside, command, look_at_output, pour, refuse_if, undone, whole_file
+from .faults import BLOCK, HEARD, UNDONE, Refused, aside, command, look_at_output, pour, refuse_if, whole_file
 
 ABOUT = """Slices an ASCII STL slab by slab, several slabs at once, on this machine or on several over ssh, with GNU parallel.
 The slabs' images, joined, are those of the whole. For layers.pbm - is standard output, written when all slabs are made."""
@@ -26,8 +25,7 @@ WHOLE = words.whole(999_999)
 RULE = words.taking("evenodd, nonzero or positive", "evenodd|nonzero|positive", str)
 UNIT = words.taking("mm or inch", "mm|inch", str)
 HOSTS = words.taking("machines, as host1,host2,:", r"[][A-Za-z0-9\\ @%,:/._+=~-]+", str)
-END = re.compile(rb"IEND\xaeB`\x82")  # of a PNG
-HEARD = (signal.SIGHUP, signal.SIGINT, signal.SIGTERM)
+END = b"IEND\xaeB`\x82"  # of a PNG; it has no end of a line
 
 
 class Parser(words.Parser):
@@ -101,8 +99,8 @@ class Slabs:
 
     def __init__(self, given, slicer):
         with open(given.part, "rb") as file:
-            with started(slicer, [slicer, "--box", "--unit", given.unit], stdin=file, stderr=subprocess.PIPE) as child:
-                told, faults = child.communicate()
+            child = started(slicer, [slicer, "--box", "--unit", given.unit], stdin=file, stderr=subprocess.PIPE)
+            told, faults = child.communicate()
         if child.returncode:
             line = None if faults else f"{slicer} --box ended with status {status_of(child)} and no line"
             raise Refused(line, status_of(child), faults.decode(errors="backslashreplace"))
@@ -121,11 +119,10 @@ class Slabs:
 
     def are_whole(self, given, file):
         """Whether the images are as many as the layers: P4 images by their bytes, PNGs by their ends."""
-        if not given.png or not file.tell():
+        if not given.png:
             return file.tell() == self.layers * self.size
-        file.flush()
-        with mmap.mmap(file.fileno(), 0, access=mmap.ACCESS_READ) as images:
-            return len(END.findall(images)) == self.layers
+        file.seek(0)
+        return sum(line.count(END) for line in file) == self.layers
 
 
 def status_of(ended):
@@ -165,25 +162,24 @@ def passed_on(given, call, folder, file):
     environment = {**os.environ, "TMPDIR": os.path.dirname(folder), **({} if given.hosts else {"PARALLEL_SHELL": "/bin/sh"})}
     # in memory, since the folder may be full
     with open(os.memfd_create("parallel"), "r+", errors="backslashreplace") as own:
-        with started("GNU parallel", call, cwd=folder, env=environment, stdin=subprocess.DEVNULL,
-                     stderr=sys.stderr if given.hosts or sys.stderr.isatty() else own) as child:
-            shutil.copyfileobj(child.stdout, file, BLOCK)
-            child.wait()
+        child = started("GNU parallel", call, cwd=folder, env=environment, stdin=subprocess.DEVNULL,
+                        stderr=sys.stderr if given.hosts or sys.stderr.isatty() else own)
+        shutil.copyfileobj(child.stdout, file, BLOCK)
+        child.wait()
         own.seek(0)
         faults = os.path.join(folder, "faults")
         with open(faults if os.path.exists(faults) else os.devnull, errors="backslashreplace") as said:
             return status_of(child), said.readline(), own.read()
 
 
-@contextlib.contextmanager
 def started(name, call, **how):
     """A process that ends with the command. A signal waits until it is known what it has to end."""
     signal.pthread_sigmask(signal.SIG_BLOCK, HEARD)
     with told(f"{name} can't be started"):
         child = subprocess.Popen(call, stdout=subprocess.PIPE, bufsize=0, preexec_fn=begin, **how)
-    with undone(partial(end, child)):
-        signal.pthread_sigmask(signal.SIG_UNBLOCK, HEARD)
-        yield child
+    UNDONE.append(partial(end, child))
+    signal.pthread_sigmask(signal.SIG_UNBLOCK, HEARD)
+    return child
 
 
 def begin():
@@ -208,8 +204,8 @@ def end(child):
 def make(given, slicer, slabs):
     """Makes the output, whole or not at all."""
     place, name = os.environ.get("TMPDIR") or "/tmp", "standard output" if given.output == "-" else given.output
-    apart = aside(os.path.abspath(f"{place}/stlslice"))
-    with told(f"{name} can't be written"), whole_file(given.output) as file, apart as folder:
+    folder = aside(os.path.abspath(f"{place}/stlslice"))
+    with told(f"{name} can't be written"), whole_file(given.output, given.part) as file:
         with told(f"the temporary folder {place} can't be used"):
             os.mkdir(folder, 0o700)
             call = call_of_parallel(given, slicer, slabs, folder)
@@ -219,13 +215,12 @@ def make(given, slicer, slabs):
         if status and (line or given.hosts):
             raise Refused(None, status, line)
         # parallel tells the command of the slab that failed
-        number = next((k for k, it in enumerate(slabs.words, 1) if f" {it} " in of_parallel), None)
-        which = f"slab {number} of {len(slabs.words)}" if number else "a slab"
+        numbers = [k for k, it in enumerate(slabs.words, 1) if f" {it} " in of_parallel]
+        which = f"slab {numbers[0]} of {len(slabs.words)}" if numbers else "a slab"
         line = f"{which} ended with status {status} and no line: is the temporary folder {place} full, or memory short?"
         refuse_if(status, line, status)
         line = f"{name} can't be written: images of slabs are lost; is the temporary folder {place} full?"
         refuse_if(not slabs.are_whole(given, file), line)
-        look_at_output(given.output, given.part)
         if given.output == "-":
             pour(file)
 

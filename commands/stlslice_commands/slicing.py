@@ -3,6 +3,7 @@
 from functools import partial
 
 from .faults import Progress, Refused, answers, finish, in_mm, refuse_if, say
+from .images import joined
 from .parts import OPEN, Part, size_of
 
 
@@ -18,16 +19,14 @@ class Sliced:
     def placed(self):
         """The meshes of the part on the screen. It is turned by a quarter for a screen in portrait, and by one more if that was
         asked for. A part that doesn't fit so is refused."""
-        usual = 1 if self.given.printer and self.given.printer.is_portrait else 0
-        more = 1 if self.given.turn == "" else 0
-        meshes = self.opened(usual + more)
-        if not meshes and self.given.turn == "auto":
-            meshes = self.opened(usual + 1)
+        turn, usual = self.given.turn, 1 if self.given.printer and self.given.printer.is_portrait else 0
+        for more in {None: [0], "": [1], "auto": [0, 1]}[turn]:
+            meshes = self.opened(usual + more)
             if meshes:
-                say("the part is turned by a quarter: it fits only so")
-        if not meshes:
-            self.refuse_large(usual, more)
-        return meshes
+                if more and turn == "auto":
+                    say("the part is turned by a quarter: it fits only so")
+                return meshes
+        self.refuse_large(usual, turn == "")
 
     def opened(self, quarters):
         """The meshes of the part that is turned so, or none if it doesn't fit."""
@@ -63,31 +62,25 @@ class Sliced:
     def areas_of_lit(self):
         """How many pixels of each mesh's layers are lit. A part of which none is lit is refused."""
         Progress.show("slicing", is_new=True)
-        rule, is_one = self.given.rule, len(self.meshes) == 1
-        rules = [rule, *{"positive": ["nonzero"], "nonzero": [] if is_one else ["positive"]}.get(rule, [])]
-        found = iter(answers(*(partial(mesh.areas, it) for it in rules for mesh in self.meshes)))
-        areas, *others = [[next(found) for _ in self.meshes] for _ in rules]
-        totals, *other_totals = [list(map(sum, it)) for it in (areas, *others)]
-        self.part.refuse_dark(totals, rule, self.size)
+        rule, count = self.given.rule, len(self.meshes)
+        other = {"positive": "nonzero", "nonzero": "positive" if count > 1 else None}.get(rule)
+        found = answers(*(partial(mesh.areas, it) for it in (rule, other) if it for mesh in self.meshes))
+        pixels, by_other = list(map(sum, found[:count])), list(map(sum, found[count:]))
+        self.part.refuse_dark(pixels, rule, self.size)
         # What `nonzero` lights and `positive` doesn't is enclosed more often inwards than outwards. Images of several meshes
         # can't be joined then, since an overlap with another mesh may be dark.
-        if others and other_totals != [totals]:
+        if other and pixels != by_other:
             line = "a shell is inside out, or bounds a hollow: --shells joins such shells by --rule evenodd alone"
-            refuse_if(not is_one, line)
-            say(f"a shell is inside out somewhere: {self.millilitres(*totals):.3f} ml by --rule positive, "
-                f"{self.millilitres(*other_totals[0]):.3f} ml by --rule nonzero; look at the layers")
-        return areas
+            refuse_if(count > 1, line)
+            say(f"a shell is inside out somewhere: {self.millilitres(*pixels):.3f} ml by --rule positive, "
+                f"{self.millilitres(*by_other):.3f} ml by --rule nonzero; look at the layers")
+        return found[:count]
 
     def pngs(self):
         """Each layer as a PNG and how many of its pixels are lit, the lowest first."""
         given = self.given
-        words = given.depth, given.mirror_x, given.mirror_y, given.workers
-        if len(self.meshes) == 1:
-            layers = zip(self.meshes[0].pngs(*words), self.areas[0])
-        else:
-            from .images import joined
-            streams = zip(zip(*(mesh.pngs(*words) for mesh in self.meshes)), zip(*self.areas))
-            layers = (joined(pngs, areas, given.rule) for pngs, areas in streams)
+        streams = zip(*(mesh.pngs(given.depth, given.mirror_x, given.mirror_y, given.workers) for mesh in self.meshes))
+        layers = (joined(pngs, areas, given.rule) for pngs, areas in zip(streams, zip(*self.areas)))
         for png, lit in Progress.through(layers, self.layers):
             self.lit += lit
             yield png, lit
