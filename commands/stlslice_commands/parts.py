@@ -46,15 +46,13 @@ class Part:
         """What the library's calls return. A fault ends the command with its line; of open edges the least of all meshes is told,
         as if they were one."""
         try:
-            return answers(*calls, rank=lambda it: [int(word) for word in re.findall(r"-?\d+", str(it))]
-                           if getattr(it, "status", 0) == OPEN else [1 << 31])
+            return answers(*calls, rank=lambda it: [getattr(it, "status", 0) != OPEN, *map(int, re.findall(r"-?\d+", str(it)))])
         except stlslice.FitFault:
             return []
         except MemoryError:
             raise
         except stlslice.Fault as fault:
-            if str(fault) == "no facet is left" and not self.box().facets:
-                raise Refused("the part has no facets")
+            refuse_if(str(fault) == "no facet is left" and not self.box().facets, "the part has no facets")
             is_large = "too many facets" in str(fault)
             raise Refused(SHELLS if is_large and self.shells is False else None, 3 if is_large else fault.status, fault.line + "\n")
 
