@@ -31,8 +31,7 @@ END = b"IEND\xaeB`\x82"  # of a PNG; it has no end of a line
 class Parser(words.Parser):
     def error(self, message):
         """Ends with one line, as `-p takes a value`."""
-        message = message.replace("expected one argument", "it takes a value")
-        raise Refused(re.sub(r"^argument (\S+): (it )?", r"\1 ", message), 2)
+        raise Refused(re.sub(r"^argument (\S+): (it )?", r"\1 ", message.replace("expected one argument", "takes a value")), 2)
 
 
 def words_given():
