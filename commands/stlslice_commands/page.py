@@ -25,28 +25,26 @@ def run():
     add("--title", metavar="TEXT", help="the page's heading (the file's name)")
     given = made.parse_args()
     with whole_file(given.output, given.part) as file:
-        from .parts import Part, size_of  # only here, so that what is wrong is told at once
+        from .parts import Part  # only here, so that what is wrong is told at once
         part = Part(given)
-        canvas = given.canvas and reached(given, part)
+        canvas = given.canvas and reached(given, part.box)
         meshes = part.open(canvas=canvas, pitch=given.pitch, layer=given.layer, rule=given.rule)
         if not meshes:
             sides = [count * given.pitch for count in given.canvas]
-            raise Refused(f"the part doesn't fit: it is {in_mm(size_of(part.box()))} mm, the canvas {in_mm(sides)} mm")
+            raise Refused(f"the part doesn't fit: it is {in_mm(part.size)} mm, the canvas {in_mm(sides)} mm")
         mesh, = meshes
-        size = size_of(mesh.box)
         Progress.show("slicing", is_new=True)
         areas, = answers(mesh.areas)
-        part.refuse_dark(areas, given.rule, size)
+        part.refuse_dark(areas, given.rule)
         volume = sum(areas) * given.pitch ** 2 * given.layer / 1e12
-        length = file.write(page_of(given, mesh, areas, f"{in_mm(size)} mm", f"{volume:.3f} ml").encode())
+        length = file.write(page_of(given, mesh, areas, f"{in_mm(part.size)} mm", f"{volume:.3f} ml").encode())
         line = f"{len(mesh)} layers, {volume:.3f} ml, {-(-length // 1000)} kB"
-        finish(given, line, file, len(mesh), size, volume, bytes=length)
+        finish(given, line, file, len(mesh), part.size, volume, bytes=length)
 
 
-def reached(given, part):
+def reached(given, box):
     """What the part reaches of the canvas: as many columns and rows less on both sides, so that pixels are the same. A canvas that
     is too large stays so, and the library refuses it."""
-    box, = part.asked(part.box)
     spare = [(count * given.pitch - max(1, after - before)) // (2 * given.pitch)
              for count, before, after in zip(given.canvas, box.low, box.high)]
     return given.canvas if max(given.canvas) > MOST else [count - 2 * max(0, it) for count, it in zip(given.canvas, spare)]
