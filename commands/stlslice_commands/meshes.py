@@ -305,8 +305,7 @@ def columns_of(text):
     words = text.encode().split()
     is_wrong = len(words) != 12 or max(map(len, words)) > TRANSFORM
     refuse_if(is_wrong, f"a transform hasn't twelve numbers of at most {TRANSFORM} bytes")
-    numbers = list(map(number, words))
-    found = [numbers[k::3] for k in range(3)]
+    found = [list(map(number, words[k::3])) for k in range(3)]
     refuse_if(not volume(found), "a transform makes an object flat")
     return found
 

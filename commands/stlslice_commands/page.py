@@ -1,5 +1,4 @@
-"""`stlslice-page`: a part as one page of HTML that shows its layers, for any browser. It has the images that stlslice writes, a
-slider and the areas over the height, and asks no network."""
+"""Slices a part into one page of HTML that shows its layers, for any browser."""
 
 import base64
 import html
@@ -17,7 +16,7 @@ MOST = 16_384  # columns and rows of a screen
 
 @command
 def run():
-    made = words.shared("Slices a part into one page of HTML that shows its layers, for any browser.", "the page to write, as page.html")
+    made = words.shared(__doc__, "the page to write, as page.html")
     add = made.add_argument
     add("--pitch", type=words.micrometres, default=50, metavar="N", help="width and depth of a pixel in micrometres (%(default)s)")
     add("--canvas", type=words.canvas, metavar="COLUMNSxROWS",
@@ -51,7 +50,8 @@ def reached(given, box):
 
 
 def page_of(given, mesh, areas, size, volume):
-    """The page. It has each image once, and for each layer the number of its image and how many of its pixels are lit."""
+    """The page, which asks no network. It has each image once, as stlslice writes it, and for each layer the number of its image
+    and how many of its pixels are lit."""
     layers, height, width = mesh.shape
     columns, rows = given.canvas or (width, height)
     name = given.title or ("part" if given.part == "-" else os.path.basename(given.part))

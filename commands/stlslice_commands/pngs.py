@@ -1,18 +1,16 @@
-"""`stlslice-pngs`: a part as a folder of PNGs, one a layer. NAME/00000.png is the lowest."""
+"""Slices a part into a folder of PNGs, one a layer: NAME/00000.png is the lowest. The part stands in the middle of the screen,
+white on black; one that doesn't fit is refused. The folder must be new or empty; it is made aside and moved into place when it is
+whole."""
 
 import os
 
 from . import words
 from .faults import aside, command, named, refuse_if
 
-ABOUT = """Slices a part into a folder of PNGs, one a layer: NAME/00000.png is the lowest. The part stands in the middle
-of the screen, white on black; one that doesn't fit is refused. The folder must be new or empty; it is made aside and
-moved into place when it is whole."""
-
 
 @command
 def run():
-    given = words.read(words.parser(ABOUT, "the folder to make"))
+    given = words.read(words.parser(__doc__, "the folder to make"))
     folder = given.output = given.output.rstrip("/" + os.sep) or "/"
     line = "a folder can't be standard output; stlslice --png writes all layers there, and ./- is a folder's name"
     refuse_if(folder == "-", line)

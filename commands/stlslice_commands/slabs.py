@@ -1,6 +1,5 @@
-"""`stlslice-slabs`: a part slab by slab, by the program and GNU parallel. This doesn't look at its own writes, so what it passes
-on is written here, and counted. The first slab that fails halts all others, and its line and status are passed on; with -S its
-line may be lost if a slab below it still runs. -S needs rsync, and ssh without a password."""
+"""Slices an ASCII STL slab by slab, several slabs at once, on this machine or on several over ssh, with GNU parallel.
+The slabs' images, joined, are those of the whole. For layers.pbm - is standard output, written when all slabs are made."""
 
 import argparse
 import contextlib
@@ -18,8 +17,6 @@ from shlex import quote
 from . import formats, words
 from .faults import BLOCK, HEARD, UNDONE, Refused, aside, command, look_at_output, pour, refuse_if, whole_file
 
-ABOUT = """Slices an ASCII STL slab by slab, several slabs at once, on this machine or on several over ssh, with GNU parallel.
-The slabs' images, joined, are those of the whole. For layers.pbm - is standard output, written when all slabs are made."""
 USAGE = "%(prog)s [OPTIONS] part.stl layers.pbm\n       %(prog)s [OPTIONS] --words part.stl"
 WHOLE = words.whole(999_999)
 RULE = words.taking("evenodd, nonzero or positive", "evenodd|nonzero|positive", str)
@@ -36,7 +33,7 @@ class Parser(words.Parser):
 
 def words_given():
     """The options, and the names of part and output, which may begin with a dash."""
-    made = Parser(description=ABOUT, usage=USAGE, allow_abbrev=False)
+    made = Parser(description=__doc__, usage=USAGE, allow_abbrev=False)
     add = made.add_argument
     add("-p", dest="pitch", type=WHOLE, default=50, metavar="N", help="pitch in micrometres (%(default)s)")
     add("-l", dest="layer", type=WHOLE, default=50, metavar="N", help="layer height in micrometres (%(default)s)")
@@ -146,7 +143,8 @@ def call_of_parallel(given, slicer, slabs, folder):
     # parallel prints what slabs say in their order, so it would leave out the fault of one that ends before one below it
     files = f"2>> {quote(os.path.join(folder, 'faults'))} < {quote(os.path.realpath(given.part))}"
     if given.hosts:
-        # A copy under a name of its own, relative to the login folder there: --cleanup removes that and never the part.
+        # By rsync, and ssh without a password. A copy under a name of its own, relative to the login folder there: --cleanup
+        # removes that and never the part.
         copy = f"stlslice-{os.urandom(8).hex()}.stl"
         shutil.copyfile(given.part, os.path.join(folder, copy))
         call += ["--sshlogin", given.hosts, "--basefile", copy, "--cleanup"]
@@ -157,7 +155,8 @@ def call_of_parallel(given, slicer, slabs, folder):
 
 
 def passed_on(given, call, folder, file):
-    """Writes what the slabs give. Returns the status of GNU parallel, the first line that slabs said, and what parallel said."""
+    """Writes what the slabs give, since GNU parallel doesn't look at its own writes. Returns its status, the first line that slabs
+    said, and what it said itself. With -S the line of a slab that fails may be lost if one below it still runs."""
     environment = {**os.environ, "TMPDIR": os.path.dirname(folder), **({} if given.hosts else {"PARALLEL_SHELL": "/bin/sh"})}
     # in memory, since the folder may be full
     with open(os.memfd_create("parallel"), "r+", errors="backslashreplace") as own:
@@ -201,7 +200,7 @@ def end(child):
 
 
 def make(given, slicer, slabs):
-    """Makes the output, whole or not at all."""
+    """Makes the output, whole or not at all. The first slab that fails halts all others, and its line and status are passed on."""
     place, name = os.environ.get("TMPDIR") or "/tmp", "standard output" if given.output == "-" else given.output
     folder = aside(os.path.abspath(f"{place}/stlslice"))
     with told(f"{name} can't be written"), whole_file(given.output, given.part) as file:

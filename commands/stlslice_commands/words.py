@@ -121,5 +121,4 @@ def read(made):
 
 def quarters(words):
     """The words with a value of each `--turn`, since argparse would take the part as one: with none it is empty."""
-    bare = [word == "--turn" and words[at + 1:at + 2] != ["auto"] for at, word in enumerate(words)]
-    return ["--turn=" if is_bare else word for word, is_bare in zip(words, bare)]
+    return ["--turn=" if word == "--turn" and after != "auto" else word for word, after in zip(words, [*words[1:], ""])]
