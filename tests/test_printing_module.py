@@ -154,8 +154,8 @@ class Module(Case):
 
     def test_a_signal_is_heard_while_the_library_works(self):
         """Here a call of the C library goes on for twenty seconds, whatever signals come."""
-        script = ("import ctypes, sys\nsys.path.insert(0, sys.argv[1])\nfrom stlslice_commands.faults import answers\n"
-                  "print(flush=True)\nanswers(lambda: ctypes.CDLL(None).system(b'exec sleep 20'))\n")
+        script = ("import ctypes, sys\nsys.path.insert(0, sys.argv[1])\nfrom stlslice_commands.parts import Part\n"
+                  "print(flush=True)\nPart.asked(None, lambda: ctypes.CDLL(None).system(b'exec sleep 20'))\n")
         child = subprocess.Popen([sys.executable, "-c", script, SHARE], stdout=subprocess.PIPE, env=self.room.environment)
         child.stdout.readline()
         begun = time.monotonic()

@@ -162,18 +162,6 @@ class Progress:
         cls.moment = 0.0
 
 
-def answers(*calls, rank=lambda fault: 0):
-    """What calls return that take long, each made in a thread of its own: Python heeds a signal only between its own steps. Of
-    their faults the one of the least rank is raised."""
-    from concurrent.futures import ThreadPoolExecutor  # only here, since each start reads what it imports anew
-    with ThreadPoolExecutor(len(calls)) as pool:
-        made = [pool.submit(call) for call in calls]
-    faults = [it.exception() for it in made if it.exception()]
-    if faults:
-        raise min(faults, key=rank)
-    return [it.result() for it in made]
-
-
 def stop(number, _):
     """Ends the command by a signal, and removes what isn't whole. Further signals are ignored meanwhile. No exception is raised:
     it would end whatever the signal came upon, such as `zipfile` in the middle of an entry, which then raises its own."""

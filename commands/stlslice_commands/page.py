@@ -8,7 +8,7 @@ import re
 from pathlib import Path
 
 from . import words
-from .faults import Progress, Refused, answers, command, finish, in_mm, shown, whole_file
+from .faults import Progress, Refused, command, finish, in_mm, shown, whole_file
 from .images import smallest
 
 MOST = 16_384  # columns and rows of a screen
@@ -33,7 +33,7 @@ def run():
             raise Refused(f"the part doesn't fit: it is {in_mm(part.size)} mm, the canvas {in_mm(sides)} mm")
         mesh, = meshes
         Progress.show("slicing", is_new=True)
-        areas, = answers(mesh.areas)
+        areas, = part.asked(mesh.areas)
         part.refuse_dark(areas, given.rule)
         volume = sum(areas) * given.pitch ** 2 * given.layer / 1e12
         length = file.write(page_of(given, mesh, areas, f"{in_mm(part.size)} mm", f"{volume:.3f} ml").encode())

@@ -2,12 +2,13 @@
 
 import re
 import sys
+from concurrent.futures import ThreadPoolExecutor
 from functools import partial
 
 import stlslice
 
 from . import formats
-from .faults import Progress, Refused, answers, in_mm, named, refuse_if, say
+from .faults import Progress, Refused, in_mm, named, refuse_if, say
 
 SHELLS = "a mesh has at most 1,048,576 facets; --shells slices a larger part shell by shell, if it has several"
 OPEN = 4  # the library's status if a mesh is open
@@ -45,17 +46,20 @@ class Part:
         return self.asked(*(partial(call, **how) for call in self.calls))
 
     def asked(self, *calls):
-        """What the library's calls return. A fault ends the command with its line; of open edges the least of all meshes is told,
-        as if they were one."""
-        try:
-            return answers(*calls, rank=lambda it: [getattr(it, "status", 0) != OPEN, *map(int, re.findall(r"-?\d+", str(it)))])
-        except stlslice.FitFault:
+        """What the library's calls return, each made in a thread of its own: Python heeds a signal only between its own steps. A
+        fault ends the command with its line; of open edges the least of all meshes is told, as if they were one."""
+        with ThreadPoolExecutor(len(calls)) as pool:
+            made = [pool.submit(call) for call in calls]
+        faults = [it.exception() for it in made if it.exception()]
+        if not faults:
+            return [it.result() for it in made]
+        fault = min(faults, key=lambda it: [getattr(it, "status", 0) != OPEN, *map(int, re.findall(r"-?\d+", str(it)))])
+        if isinstance(fault, stlslice.FitFault):
             return []
-        except MemoryError:
-            raise
-        except stlslice.Fault as fault:
-            is_large = "too many facets" in str(fault)
-            raise Refused(SHELLS if is_large and self.shells is False else None, 3 if is_large else fault.status, fault.line + "\n")
+        if isinstance(fault, MemoryError) or not isinstance(fault, stlslice.Fault):
+            raise fault
+        is_large = "too many facets" in str(fault)
+        raise Refused(SHELLS if is_large and self.shells is False else None, 3 if is_large else fault.status, fault.line + "\n")
 
     def refuse_dark(self, areas, rule):
         or_unit = f", or its unit another than {self.unit}" if self.unit else ""

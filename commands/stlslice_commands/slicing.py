@@ -2,7 +2,7 @@
 
 from functools import partial
 
-from .faults import Progress, Refused, answers, finish, in_mm, refuse_if, say
+from .faults import Progress, Refused, finish, in_mm, refuse_if, say
 from .images import joined
 from .parts import Part
 
@@ -49,7 +49,7 @@ class Sliced:
         Progress.show("slicing", is_new=True)
         rule, count = self.given.rule, len(self.meshes)
         other = {"positive": "nonzero", "nonzero": "positive" if count > 1 else None}.get(rule)
-        found = answers(*(partial(mesh.areas, it) for it in (rule, other) if it for mesh in self.meshes))
+        found = self.part.asked(*(partial(mesh.areas, it) for it in (rule, other) if it for mesh in self.meshes))
         pixels, by_other = list(map(sum, found[:count])), list(map(sum, found[count:]))
         self.part.refuse_dark(pixels, rule)
         # What `nonzero` lights and `positive` doesn't is enclosed more often inwards than outwards. Images of several meshes
