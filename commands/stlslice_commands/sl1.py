@@ -26,8 +26,7 @@ def run():
         help="seconds a layer is exposed (the printer's, else 2.2); a line says if that is for layers of another height")
     add("--first-exposure", type=SECONDS, metavar="S", help="the same of the first layers (the printer's, else 25)")
     add("--fade", type=COUNT, metavar="N", help="layers over which the exposure fades from the first to the other (10)")
-    add("--material", type=lambda text: shown(" ".join(text.split())), metavar="NAME",
-        help="the resin's name, for the printer to show (the printer's, else resin)")
+    add("--material", type=one_line, metavar="NAME", help="the resin's name, for the printer to show (the printer's, else resin)")
     given = words.read(parser)
     fill_in(given)
     now = moment()
@@ -113,6 +112,10 @@ def profile(given):
         "exposure_time": f"{given.exposure:g}", "initial_exposure_time": f"{given.first_exposure:g}", "faded_layers": given.fade,
         "layer_height": f"{given.layer / 1000:g}", "initial_layer_height": f"{given.layer / 1000:g}",
     }
+
+
+def one_line(text):
+    return shown(" ".join(text.split()))
 
 
 def job_name(output):
