@@ -130,18 +130,21 @@ class Module(Case):
     def test_files_are_whole_or_not_there(self):
         """Two runs for one output, as in containers, whose processes have the same number: each has a file of its own."""
         out = self.room.file("out")
+        refused(lambda: fail_within(out), 1, "a fault")
+        assert not os.path.exists(out), "a file that failed is there"
+        faults.undo()
+        same(self.room.files(), [], "files after one that failed")
         with faults.whole_file(out) as file:
             file.write(b"one")
-            refused(lambda: fail_within(out), 1, "a fault")
-            same((len(self.room.files()), os.path.exists(out)), (1, False), "files beside one that failed")
+            assert not os.path.exists(out), "a file that isn't ready is there"
             with faults.whole_file(out) as other:
                 other.write(b"other")
             same(self.room.get("out"), b"other", "the one that was ready first")
         same((self.room.get("out"), self.room.files()), (b"one", ["out"]), "the one that was ready last")
 
     def test_faults_have_lines(self):
-        with faults.aside(self.room.file("a")) as path:
-            name = self.room.file("a")
+        name = self.room.file("a")
+        path = faults.aside(name)
         for fault, wanted in ((Refused("no", 3), ("no", 3)), (MemoryError(), ("out of memory", 6)),
                               (OSError(errno.ENOMEM, "Cannot allocate memory"), ("out of memory", 6)),
                               (OSError(errno.ENOSPC, "Full"), ("Full", 1)),
@@ -151,8 +154,8 @@ class Module(Case):
 
     def test_a_signal_is_heard_while_the_library_works(self):
         """Here a call of the C library goes on for twenty seconds, whatever signals come."""
-        script = ("import ctypes, sys\nsys.path.insert(0, sys.argv[1])\nfrom stlslice_commands.faults import answers\n"
-                  "print(flush=True)\nanswers(lambda: ctypes.CDLL(None).system(b'exec sleep 20'))\n")
+        script = ("import ctypes, sys\nsys.path.insert(0, sys.argv[1])\nfrom stlslice_commands.parts import Part\n"
+                  "print(flush=True)\nPart.asked(None, lambda: ctypes.CDLL(None).system(b'exec sleep 20'))\n")
         child = subprocess.Popen([sys.executable, "-c", script, SHARE], stdout=subprocess.PIPE, env=self.room.environment)
         child.stdout.readline()
         begun = time.monotonic()

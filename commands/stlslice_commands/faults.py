@@ -2,6 +2,7 @@
 
 import contextlib
 import errno
+import functools
 import os
 import re
 import shutil
@@ -11,7 +12,8 @@ import time
 
 UNSHOWN = re.compile("[\0-\x1f\x7f-\x9f\udc80-\udcff]")  # control characters, and bytes of a name that are no UTF-8
 BLOCK = 1 << 20
-UNDONE = []  # what is called, the last first, if a signal ends the command
+HEARD = [getattr(signal, it) for it in ("SIGHUP", "SIGINT", "SIGTERM") if hasattr(signal, it)]  # Windows has no SIGHUP
+UNDONE = []  # what is called, the last first, when the command ends, or a signal ends it
 
 
 class Refused(Exception):
@@ -35,14 +37,13 @@ def shown(text):
 def tell(text):
     """Writes on standard error. If that is full, nothing is said."""
     with contextlib.suppress(OSError):
-        sys.stderr.write(text)
-        sys.stderr.flush()
+        print(text, end="", file=sys.stderr, flush=True)
 
 
-def say(line):
-    """Writes a line on standard error, after the command's name."""
+def say(line, before=""):
+    """Writes a line, if there is one, on standard error, after the command's name. What another program said comes before it."""
     Progress.clear()
-    tell(shown(f"{os.path.basename(sys.argv[0])}: {line}") + "\n")
+    tell(before + (shown(f"{os.path.basename(sys.argv[0])}: {line}") + "\n" if line else ""))
 
 
 def in_mm(lengths):
@@ -60,29 +61,24 @@ def look_at_output(output, part):
         refuse_if(os.path.samefile(output, 0 if part == "-" else part), f"{output} is the part itself")
 
 
-@contextlib.contextmanager
-def undone(undo):
-    """Calls `undo` when the block ends, or when a signal ends the command."""
-    UNDONE.append(undo)
-    try:
-        yield
-    finally:
-        undo()
-        UNDONE.remove(undo)
+def undo():
+    """Ends and removes what is under way. A signal may come meanwhile, and does so once more."""
+    for it in reversed(UNDONE):
+        it()
 
 
-@contextlib.contextmanager
 def aside(output):
-    """A path that an output has until it is whole, and no other run takes. What is there when the block ends is removed."""
+    """A path that an output has until it is whole, and no other run takes. What is there when the command ends is removed."""
     path = f"{output}.{os.urandom(4).hex()}.part"
+    UNDONE.append(functools.partial(remove, path))
+    return path
 
-    def remove():
-        with contextlib.suppress(OSError):
-            os.remove(path)
-        shutil.rmtree(path, ignore_errors=True)
 
-    with undone(remove):
-        yield path
+def remove(path):
+    """Removes a file or a folder, if there is one."""
+    with contextlib.suppress(OSError):
+        os.remove(path)
+    shutil.rmtree(path, ignore_errors=True)
 
 
 @contextlib.contextmanager
@@ -94,10 +90,11 @@ def whole_file(output, part=""):
         with named("TMPDIR"), named(tempfile.gettempdir()), tempfile.TemporaryFile() as file:
             yield file
         return
-    with aside(output) as path:
-        with named(output), open(path, "x+b") as file:
-            yield file
-        os.replace(path, output)
+    path = aside(output)
+    with named(output), open(path, "x+b") as file:
+        yield file
+    look_at_output(output, part)
+    os.replace(path, output)
 
 
 def finish(given, plain, file, layers, size, volume, **more):
@@ -165,24 +162,11 @@ class Progress:
         cls.moment = 0.0
 
 
-def answers(*calls, rank=lambda fault: 0):
-    """What calls return that take long, each made in a thread of its own: Python heeds a signal only between its own steps. Of
-    their faults the one of the least rank is raised."""
-    from concurrent.futures import ThreadPoolExecutor  # only here, since each start reads what it imports anew
-    with ThreadPoolExecutor(len(calls)) as pool:
-        made = [pool.submit(call) for call in calls]
-    faults = [it.exception() for it in made if it.exception()]
-    if faults:
-        raise min(faults, key=rank)
-    return [it.result() for it in made]
-
-
 def stop(number, _):
     """Ends the command by a signal, and removes what isn't whole. Further signals are ignored meanwhile. No exception is raised:
     it would end whatever the signal came upon, such as `zipfile` in the middle of an entry, which then raises its own."""
     listen(signal.SIG_IGN)
-    for undo in reversed(UNDONE):
-        undo()
+    undo()
     if Progress.moment:
         with contextlib.suppress(OSError):
             os.write(sys.stderr.fileno(), Progress.CLEAR.encode())
@@ -191,9 +175,8 @@ def stop(number, _):
 
 def listen(how):
     """Has signals answered so, but for those that are ignored, as by nohup."""
-    for name in ("SIGHUP", "SIGINT", "SIGTERM"):
-        number = getattr(signal, name, None)  # Windows has no SIGHUP
-        if number and signal.getsignal(number) != signal.SIG_IGN:
+    for number in HEARD:
+        if signal.getsignal(number) != signal.SIG_IGN:
             signal.signal(number, how)
 
 
@@ -229,11 +212,9 @@ def command(main):
                 sys.stdout.flush()
         except (Refused, ImportError, MemoryError, OSError) as fault:
             line, status = end_of(fault)
-            Progress.clear()
-            tell(getattr(fault, "told", ""))
-            if line:
-                say(line)
-        Progress.clear()
+            say(line, getattr(fault, "told", ""))
+        finally:
+            undo()
         os._exit(status)  # Python would write once more to a standard output that is full
 
     return run

@@ -1,7 +1,6 @@
 """OBJ and 3MF as points in whole micrometres, and triangles of their indices. Each coordinate is rounded once, at the end."""
 
 import decimal
-import functools
 import io
 import itertools
 import re
@@ -127,19 +126,15 @@ def fan(points, corners):
 
 def is_fan(corners):
     """Whether a polygon is flat and convex, but for FLAT micrometres: all corners lie in a plane, each three in a row turn to the
-    left, and so do the triangles of the fan. Those of four corners are turns already."""
+    left, and so do the triangles of the fan."""
     first, triangles = corners[0], [(corners[0], *pair) for pair in zip(corners[1:], corners[2:])]
-    turns = list(zip(corners, corners[1:] + corners[:1], corners[2:] + corners[:2]))
+    turns = zip(corners, corners[1:] + corners[:1], corners[2:] + corners[:2])
     normal = tuple(map(sum, zip(*(normal_of(*it) for it in triangles))))
     slack = FLAT ** 2 * dot(normal, normal)
-
-    def is_left(a, b, c):
-        """Whether the way from a over b to c turns to the left, or b is near the line through a and c."""
-        left, across = dot(normal, normal_of(a, b, c)), minus(c, a)
-        return left >= 0 or left ** 2 <= slack * dot(across, across)
-
+    # by how much the way from a over b to c turns to the left; to the right it may if b is near the line through a and c
+    ways = ((dot(normal, normal_of(a, b, c)), minus(c, a)) for a, b, c in itertools.chain(turns, triangles))
     return (slack > 0 and all(dot(normal, minus(it, first)) ** 2 <= slack for it in corners)
-            and all(is_left(*it) for it in (turns if len(corners) == 4 else turns + triangles)))
+            and all(left >= 0 or left ** 2 <= slack * dot(across, across) for left, across in ways))
 
 
 def normal_of(a, b, c):
@@ -182,12 +177,8 @@ def read_3mf(data, most):
 def model_of(archive):
     """The name of the entry with the model, as the package's relationships have it."""
     found = []
-
-    def start(name, words):
-        if name.endswith("Relationship") and words.get("Type") == MODEL:
-            found.append(words["Target"].lstrip("/"))
-
-    fed(opened(archive, "_rels/.rels", LINE), start)
+    fed(opened(archive, "_rels/.rels", LINE),
+        lambda _, words: found.extend([words["Target"].lstrip("/")] if words.get("Type") == MODEL else []))
     refuse_if(len(found) != 1, "its relationships name no model, or several")
     return found[0]
 
@@ -299,8 +290,7 @@ class Object:
         for line in io.BytesIO(self.lines):
             place = list(map(number, line.split()))
             point = [dot(it, place) + it[3] for it in columns]
-            if not all(-FAR < it < FAR for it in point):
-                raise Refused(f"object {self.id} reaches beyond 128 m from the origin")
+            refuse_if(not all(-FAR < it < FAR for it in point), f"object {self.id} reaches beyond 128 m from the origin")
             points.extend(int(EXACT.to_integral_value(it)) for it in point)
         if volume(columns) < 0:
             corners[1::3], corners[2::3] = corners[2::3], corners[1::3]
@@ -310,14 +300,12 @@ class Object:
             other.place([[dot(row, it) + (it[3] if k == 3 else 0) for k, row in rows] for it in columns], points, triangles)
 
 
-@functools.lru_cache(maxsize=256)
 def columns_of(text):
     """The three columns of a transform. By the first three numbers of each x, y and z are multiplied, and the last is added."""
     words = text.encode().split()
     is_wrong = len(words) != 12 or max(map(len, words)) > TRANSFORM
     refuse_if(is_wrong, f"a transform hasn't twelve numbers of at most {TRANSFORM} bytes")
-    numbers = list(map(number, words))
-    found = [numbers[k::3] for k in range(3)]
+    found = [list(map(number, words[k::3])) for k in range(3)]
     refuse_if(not volume(found), "a transform makes an object flat")
     return found
 

@@ -1,5 +1,4 @@
-"""`stlslice-page`: a part as one page of HTML that shows its layers, for any browser. It has the images that stlslice writes, a
-slider and the areas over the height, and asks no network."""
+"""Slices a part into one page of HTML that shows its layers, for any browser."""
 
 import base64
 import html
@@ -9,7 +8,7 @@ import re
 from pathlib import Path
 
 from . import words
-from .faults import Progress, Refused, answers, command, finish, in_mm, shown, whole_file
+from .faults import Progress, Refused, command, finish, in_mm, shown, whole_file
 from .images import smallest
 
 MOST = 16_384  # columns and rows of a screen
@@ -17,7 +16,7 @@ MOST = 16_384  # columns and rows of a screen
 
 @command
 def run():
-    made = words.shared("Slices a part into one page of HTML that shows its layers, for any browser.", "the page to write, as page.html")
+    made = words.shared(__doc__, "the page to write, as page.html")
     add = made.add_argument
     add("--pitch", type=words.micrometres, default=50, metavar="N", help="width and depth of a pixel in micrometres (%(default)s)")
     add("--canvas", type=words.canvas, metavar="COLUMNSxROWS",
@@ -25,35 +24,34 @@ def run():
     add("--title", metavar="TEXT", help="the page's heading (the file's name)")
     given = made.parse_args()
     with whole_file(given.output, given.part) as file:
-        from .parts import Part, size_of  # only here, so that what is wrong is told at once
+        from .parts import Part  # only here, so that what is wrong is told at once
         part = Part(given)
-        canvas = given.canvas and reached(given, part)
+        canvas = given.canvas and reached(given, part.box)
         meshes = part.open(canvas=canvas, pitch=given.pitch, layer=given.layer, rule=given.rule)
         if not meshes:
             sides = [count * given.pitch for count in given.canvas]
-            raise Refused(f"the part doesn't fit: it is {in_mm(size_of(part.box()))} mm, the canvas {in_mm(sides)} mm")
+            raise Refused(f"the part doesn't fit: it is {in_mm(part.size)} mm, the canvas {in_mm(sides)} mm")
         mesh, = meshes
-        size = size_of(mesh.box)
         Progress.show("slicing", is_new=True)
-        areas, = answers(mesh.areas)
-        part.refuse_dark(areas, given.rule, size)
+        areas, = part.asked(mesh.areas)
+        part.refuse_dark(areas, given.rule)
         volume = sum(areas) * given.pitch ** 2 * given.layer / 1e12
-        length = file.write(page_of(given, mesh, areas, f"{in_mm(size)} mm", f"{volume:.3f} ml").encode())
+        length = file.write(page_of(given, mesh, areas, f"{in_mm(part.size)} mm", f"{volume:.3f} ml").encode())
         line = f"{len(mesh)} layers, {volume:.3f} ml, {-(-length // 1000)} kB"
-        finish(given, line, file, len(mesh), size, volume, bytes=length)
+        finish(given, line, file, len(mesh), part.size, volume, bytes=length)
 
 
-def reached(given, part):
+def reached(given, box):
     """What the part reaches of the canvas: as many columns and rows less on both sides, so that pixels are the same. A canvas that
     is too large stays so, and the library refuses it."""
-    box, = part.asked(part.box)
     spare = [(count * given.pitch - max(1, after - before)) // (2 * given.pitch)
              for count, before, after in zip(given.canvas, box.low, box.high)]
     return given.canvas if max(given.canvas) > MOST else [count - 2 * max(0, it) for count, it in zip(given.canvas, spare)]
 
 
 def page_of(given, mesh, areas, size, volume):
-    """The page. It has each image once, and for each layer the number of its image and how many of its pixels are lit."""
+    """The page, which asks no network. It has each image once, as stlslice writes it, and for each layer the number of its image
+    and how many of its pixels are lit."""
     layers, height, width = mesh.shape
     columns, rows = given.canvas or (width, height)
     name = given.title or ("part" if given.part == "-" else os.path.basename(given.part))

@@ -2,12 +2,13 @@
 
 import re
 import sys
+from concurrent.futures import ThreadPoolExecutor
 from functools import partial
 
 import stlslice
 
 from . import formats
-from .faults import Progress, Refused, answers, in_mm, named, refuse_if, say
+from .faults import Progress, Refused, in_mm, named, refuse_if, say
 
 SHELLS = "a mesh has at most 1,048,576 facets; --shells slices a larger part shell by shell, if it has several"
 OPEN = 4  # the library's status if a mesh is open
@@ -16,7 +17,7 @@ ONE_VOXEL = {"pitch": 1000, "layer": 1000, "grid": (1, 1, 1, 0, 0, 0)}
 
 class Part:
     """A part that was read, and can be opened: as one mesh, or with --shells as one for each group of its shells. `unit` is the one
-    that was given for its numbers, or None if the file has its own."""
+    that was given for its numbers, or None if the file has its own; `size` is that of its box, in micrometres."""
 
     def __init__(self, given):
         Progress.show("reading", is_new=True)
@@ -31,41 +32,39 @@ class Part:
             points, groups, more = grouped(facets)
             # an open edge is told as it is without the facets that are put to each group
             self.asked(*(partial(stlslice.open_mesh, points, it, **ONE_VOXEL) for it in groups))
-            self.calls = [partial(stlslice.open_mesh, points, it + more) for it in groups]
-            self.box = partial(box_of, points, more)
+            self.calls, self.box = [partial(stlslice.open_mesh, points, it + more) for it in groups], box_of(points, more)
         elif arrays:
-            self.calls, self.box = [partial(stlslice.open_mesh, *arrays)], partial(box_of, *arrays)
+            self.calls, self.box = [partial(stlslice.open_mesh, *arrays)], box_of(*arrays)
         else:
-            self.calls, self.box = [partial(stlslice.open, data, unit=given.unit)], partial(stlslice.box, data, given.unit)
+            self.calls = [partial(stlslice.open, data, unit=given.unit)]
+            self.box, = self.asked(partial(stlslice.box, data, given.unit))
+        refuse_if(not self.box.facets, "the part has no facets")
+        self.size = [after - before for before, after in zip(self.box.low, self.box.high)]
 
     def open(self, **how):
         """The meshes, opened as `how` says in the words of `stlslice.open`; none if the part doesn't fit its canvas."""
         return self.asked(*(partial(call, **how) for call in self.calls))
 
     def asked(self, *calls):
-        """What the library's calls return. A fault ends the command with its line; of open edges the least of all meshes is told,
-        as if they were one."""
-        try:
-            return answers(*calls, rank=lambda it: [int(word) for word in re.findall(r"-?\d+", str(it))]
-                           if getattr(it, "status", 0) == OPEN else [1 << 31])
-        except stlslice.FitFault:
+        """What the library's calls return, each made in a thread of its own: Python heeds a signal only between its own steps. A
+        fault ends the command with its line; of open edges the least of all meshes is told, as if they were one."""
+        with ThreadPoolExecutor(len(calls)) as pool:
+            made = [pool.submit(call) for call in calls]
+        faults = [it.exception() for it in made if it.exception()]
+        if not faults:
+            return [it.result() for it in made]
+        fault = min(faults, key=lambda it: [getattr(it, "status", 0) != OPEN, *map(int, re.findall(r"-?\d+", str(it)))])
+        if isinstance(fault, stlslice.FitFault):
             return []
-        except MemoryError:
-            raise
-        except stlslice.Fault as fault:
-            if str(fault) == "no facet is left" and not self.box().facets:
-                raise Refused("the part has no facets")
-            is_large = "too many facets" in str(fault)
-            raise Refused(SHELLS if is_large and self.shells is False else None, 3 if is_large else fault.status, fault.line + "\n")
+        if isinstance(fault, MemoryError) or not isinstance(fault, stlslice.Fault):
+            raise fault
+        is_large = "too many facets" in str(fault)
+        raise Refused(SHELLS if is_large and self.shells is False else None, 3 if is_large else fault.status, fault.line + "\n")
 
-    def refuse_dark(self, areas, rule, size):
+    def refuse_dark(self, areas, rule):
         or_unit = f", or its unit another than {self.unit}" if self.unit else ""
         refuse_if(not any(areas), f"no pixel is lit by --rule {rule}: is the part inside out (try --rule nonzero){or_unit}? "
-                  f"It is {in_mm(size)} mm")
-
-
-def size_of(box):
-    return [after - before for before, after in zip(box.low, box.high)]
+                  f"It is {in_mm(self.size)} mm")
 
 
 def box_of(points, triangles):

@@ -8,26 +8,20 @@ from pathlib import Path
 
 class Printer:
     """A screen as it is built in, how its images lie on it, and the exposures of one resin, in micrometres and seconds. A screen
-    in `portrait` shows images that are turned by a quarter, so these have `rows` columns and `columns` rows."""
+    in `portrait` shows images that are turned by a quarter, so `canvas` and `pitch`, which are those of images, are turned too."""
 
     def __init__(self, row):
         self.model, self.name, self.material, self.source = (row[key] for key in ("model", "name", "material", "source"))
         self.columns, self.rows = int(row["columns"]), int(row["rows"])
         self.width, self.depth, self.height = (1000 * Fraction(row[key]) for key in ("width", "depth", "height"))
         self.is_portrait = row["orientation"] == "portrait"
+        order = -1 if self.is_portrait else 1
+        self.canvas = (self.columns, self.rows)[::order]
+        self.pitch = (self.width / self.columns, self.depth / self.rows)[::order]
         self.mirror_x, self.mirror_y = row["mirror_x"] == "1", row["mirror_y"] == "1"
         self.layer, self.fade, self.area_fill = (int(row[key]) for key in ("layer", "fade", "area_fill"))
         self.exposure, self.first_exposure = float(row["exposure"]), float(row["first_exposure"])
         self.fast_tilt, self.slow_tilt = float(row["fast_tilt"]), float(row["slow_tilt"])
-
-    def canvas(self):
-        """Columns and rows of an image."""
-        return (self.rows, self.columns) if self.is_portrait else (self.columns, self.rows)
-
-    def pitch(self):
-        """Width and depth of an image's pixel."""
-        sides = self.width / self.columns, self.depth / self.rows
-        return sides[::-1] if self.is_portrait else sides
 
 
 def printers():

@@ -5,6 +5,7 @@ from array import array
 from collections import Counter
 
 from .faults import Progress, refuse_if
+from .parts import box_of
 
 LIMIT = 1_048_576 - 2  # facets of a group, beside the two that are put to it
 BLOCK = 1 << 16
@@ -21,26 +22,22 @@ def grouped(facets):
     shell are in one group, in their order. Facets belong to one shell if they share a corner. Last come two facets that are to be
     put to each group, so that all stand in one place of a screen: one reaches through the part's box, and the other is the same
     turned round, so no pixel is another."""
-    number_of, triangles, above = {}, array("I"), array("l")
-    for facet in in_blocks(facets):
-        corners = [number_of.setdefault(tuple(it), len(number_of)) for it in facet]
-        triangles.extend(corners)
-        above.extend(range(len(above), len(number_of)))
-        one = root(above, corners[0])
-        for it in corners[1:]:
-            above[root(above, it)] = one
-    points = array("i", itertools.chain.from_iterable(number_of))
-    del number_of
+    number_of = {}
+    triangles = array("I", (number_of.setdefault(tuple(it), len(number_of)) for facet in in_blocks(facets) for it in facet))
     refuse_if(not triangles, "the part has no facets")
-    shell_of = array("l", (root(above, it) for it in triangles[::3]))
+    points, above = array("i", itertools.chain.from_iterable(number_of)), array("l", range(len(number_of)))
+    del number_of
+    corners = [triangles[k::3] for k in range(3)]
+    for a, b, c in zip(*corners):
+        above[root(above, b)] = above[root(above, c)] = root(above, a)
+    shell_of = array("l", (root(above, it) for it in corners[0]))
     group_of, count = packed(shell_of)
     found = [array("I") for _ in range(count)]
     for at, shell in enumerate(shell_of):
         found[group_of[shell]].extend(triangles[3 * at:3 * at + 3])
     # degenerate facets don't count for the place on a screen
-    corners = (triangles[at:at + 3] for at in range(0, len(triangles), 3))
-    kept, last = {it for facet in corners if len(set(facet)) == 3 for it in facet} or {0}, len(points) // 3
-    low, high = (array("i", [end(points[3 * it + k] for it in kept) for k in range(3)]) for end in (min, max))
+    kept, last = {it for facet in zip(*corners) if len(set(facet)) == 3 for it in facet}, len(points) // 3
+    low, high = (array("i", end) for end in box_of(points, kept)[1:])
     between = next((it for it in kept if points[3 * it:3 * it + 3] not in (low, high)), 0)
     points.extend(low + high)
     return points, found, array("I", [last, last + 1, between, last, between, last + 1])

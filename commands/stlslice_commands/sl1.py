@@ -1,5 +1,5 @@
-"""`stlslice-sl1`: a part as an SL1 archive. That is a zip of one PNG a layer, a config.ini for the printer, and a prusaslicer.ini
-for programs that read the archive again. PrusaSlicer writes such archives for the Original Prusa SL1 and SL1S."""
+"""Slices a part into an SL1 archive for a resin printer. The part stands in the middle of the screen, white on black; one that
+doesn't fit is refused. The archive is made aside and moved into place when it is whole, so a fault leaves what was there before."""
 
 import os
 import re
@@ -8,10 +8,6 @@ import zipfile
 
 from . import words
 from .faults import command, refuse_if, say, shown, whole_file
-
-ABOUT = """Slices a part into an SL1 archive for a resin printer. The part stands in the middle of the screen, white on
-black; one that doesn't fit is refused. The archive is made aside and moved into place when it is whole, so a fault
-leaves what was there before."""
 
 LATEST = (2107, 12, 31, 23, 59, 58)  # the last moment that a zip can hold
 LEVEL = 1  # of deflating the library's PNGs once more: long runs of pixels are bytes 0 in them
@@ -24,7 +20,7 @@ DEFAULTS = dict(exposure=2.2, first_exposure=25.0, fade=10, material="", fast_ti
 
 @command
 def run():
-    parser = words.parser(ABOUT, "the archive to write, as out.sl1")
+    parser = words.parser(__doc__, "the archive to write, as out.sl1")
     add = parser.add_argument
     add("--exposure", type=SECONDS, metavar="S",
         help="seconds a layer is exposed (the printer's, else 2.2); a line says if that is for layers of another height")
@@ -62,7 +58,8 @@ def moment():
 
 
 def fill(archive, sliced, job, now):
-    """Writes a PNG for each layer, and after them the settings and the profile. Returns the seconds that the print takes."""
+    """Writes what PrusaSlicer has in an SL1 archive: a PNG for each layer, a config.ini for the printer, and a prusaslicer.ini for
+    programs that read the archive again. Returns the seconds that the print takes."""
     def entry(name, body):
         head = zipfile.ZipInfo(name, min(max(now[:6], (1980, 1, 1, 0, 0, 0)), LATEST))
         archive.writestr(head, body, zipfile.ZIP_DEFLATED, LEVEL)

@@ -1,10 +1,8 @@
-"""`stlslice-slabs`: a part slab by slab, by the program and GNU parallel. This doesn't look at its own writes, so what it passes
-on is written here, and counted. The first slab that fails halts all others, and its line and status are passed on; with -S its
-line may be lost if a slab below it still runs. -S needs rsync, and ssh without a password."""
+"""Slices an ASCII STL slab by slab, several slabs at once, on this machine or on several over ssh, with GNU parallel.
+The slabs' images, joined, are those of the whole. For layers.pbm - is standard output, written when all slabs are made."""
 
 import argparse
 import contextlib
-import mmap
 import os
 import re
 import shutil
@@ -17,29 +15,25 @@ from functools import partial
 from shlex import quote
 
 from . import formats, words
-from .faults import BLOCK, Refused, aside, command, look_at_output, pour, refuse_if, undone, whole_file
+from .faults import BLOCK, HEARD, UNDONE, Refused, aside, command, look_at_output, pour, refuse_if, whole_file
 
-ABOUT = """Slices an ASCII STL slab by slab, several slabs at once, on this machine or on several over ssh, with GNU parallel.
-The slabs' images, joined, are those of the whole. For layers.pbm - is standard output, written when all slabs are made."""
 USAGE = "%(prog)s [OPTIONS] part.stl layers.pbm\n       %(prog)s [OPTIONS] --words part.stl"
 WHOLE = words.whole(999_999)
 RULE = words.taking("evenodd, nonzero or positive", "evenodd|nonzero|positive", str)
 UNIT = words.taking("mm or inch", "mm|inch", str)
 HOSTS = words.taking("machines, as host1,host2,:", r"[][A-Za-z0-9\\ @%,:/._+=~-]+", str)
-END = re.compile(rb"IEND\xaeB`\x82")  # of a PNG
-HEARD = (signal.SIGHUP, signal.SIGINT, signal.SIGTERM)
+END = b"IEND\xaeB`\x82"  # of a PNG; it has no end of a line
 
 
 class Parser(words.Parser):
     def error(self, message):
         """Ends with one line, as `-p takes a value`."""
-        message = message.replace("expected one argument", "it takes a value")
-        raise Refused(re.sub(r"^argument (\S+): (it )?", r"\1 ", message), 2)
+        raise Refused(re.sub(r"^argument (\S+): (it )?", r"\1 ", message.replace("expected one argument", "takes a value")), 2)
 
 
 def words_given():
     """The options, and the names of part and output, which may begin with a dash."""
-    made = Parser(description=ABOUT, usage=USAGE, allow_abbrev=False)
+    made = Parser(description=__doc__, usage=USAGE, allow_abbrev=False)
     add = made.add_argument
     add("-p", dest="pitch", type=WHOLE, default=50, metavar="N", help="pitch in micrometres (%(default)s)")
     add("-l", dest="layer", type=WHOLE, default=50, metavar="N", help="layer height in micrometres (%(default)s)")
@@ -101,8 +95,8 @@ class Slabs:
 
     def __init__(self, given, slicer):
         with open(given.part, "rb") as file:
-            with started(slicer, [slicer, "--box", "--unit", given.unit], stdin=file, stderr=subprocess.PIPE) as child:
-                told, faults = child.communicate()
+            child = started(slicer, [slicer, "--box", "--unit", given.unit], stdin=file, stderr=subprocess.PIPE)
+            told, faults = child.communicate()
         if child.returncode:
             line = None if faults else f"{slicer} --box ended with status {status_of(child)} and no line"
             raise Refused(line, status_of(child), faults.decode(errors="backslashreplace"))
@@ -121,11 +115,10 @@ class Slabs:
 
     def are_whole(self, given, file):
         """Whether the images are as many as the layers: P4 images by their bytes, PNGs by their ends."""
-        if not given.png or not file.tell():
+        if not given.png:
             return file.tell() == self.layers * self.size
-        file.flush()
-        with mmap.mmap(file.fileno(), 0, access=mmap.ACCESS_READ) as images:
-            return len(END.findall(images)) == self.layers
+        file.seek(0)
+        return sum(line.count(END) for line in file) == self.layers
 
 
 def status_of(ended):
@@ -150,7 +143,8 @@ def call_of_parallel(given, slicer, slabs, folder):
     # parallel prints what slabs say in their order, so it would leave out the fault of one that ends before one below it
     files = f"2>> {quote(os.path.join(folder, 'faults'))} < {quote(os.path.realpath(given.part))}"
     if given.hosts:
-        # A copy under a name of its own, relative to the login folder there: --cleanup removes that and never the part.
+        # By rsync, and ssh without a password. A copy under a name of its own, relative to the login folder there: --cleanup
+        # removes that and never the part.
         copy = f"stlslice-{os.urandom(8).hex()}.stl"
         shutil.copyfile(given.part, os.path.join(folder, copy))
         call += ["--sshlogin", given.hosts, "--basefile", copy, "--cleanup"]
@@ -161,29 +155,29 @@ def call_of_parallel(given, slicer, slabs, folder):
 
 
 def passed_on(given, call, folder, file):
-    """Writes what the slabs give. Returns the status of GNU parallel, the first line that slabs said, and what parallel said."""
+    """Writes what the slabs give, since GNU parallel doesn't look at its own writes. Returns its status, the first line that slabs
+    said, and what it said itself. With -S the line of a slab that fails may be lost if one below it still runs."""
     environment = {**os.environ, "TMPDIR": os.path.dirname(folder), **({} if given.hosts else {"PARALLEL_SHELL": "/bin/sh"})}
     # in memory, since the folder may be full
     with open(os.memfd_create("parallel"), "r+", errors="backslashreplace") as own:
-        with started("GNU parallel", call, cwd=folder, env=environment, stdin=subprocess.DEVNULL,
-                     stderr=sys.stderr if given.hosts or sys.stderr.isatty() else own) as child:
-            shutil.copyfileobj(child.stdout, file, BLOCK)
-            child.wait()
+        child = started("GNU parallel", call, cwd=folder, env=environment, stdin=subprocess.DEVNULL,
+                        stderr=sys.stderr if given.hosts or sys.stderr.isatty() else own)
+        shutil.copyfileobj(child.stdout, file, BLOCK)
+        child.wait()
         own.seek(0)
         faults = os.path.join(folder, "faults")
         with open(faults if os.path.exists(faults) else os.devnull, errors="backslashreplace") as said:
             return status_of(child), said.readline(), own.read()
 
 
-@contextlib.contextmanager
 def started(name, call, **how):
     """A process that ends with the command. A signal waits until it is known what it has to end."""
     signal.pthread_sigmask(signal.SIG_BLOCK, HEARD)
     with told(f"{name} can't be started"):
         child = subprocess.Popen(call, stdout=subprocess.PIPE, bufsize=0, preexec_fn=begin, **how)
-    with undone(partial(end, child)):
-        signal.pthread_sigmask(signal.SIG_UNBLOCK, HEARD)
-        yield child
+    UNDONE.append(partial(end, child))
+    signal.pthread_sigmask(signal.SIG_UNBLOCK, HEARD)
+    return child
 
 
 def begin():
@@ -206,10 +200,10 @@ def end(child):
 
 
 def make(given, slicer, slabs):
-    """Makes the output, whole or not at all."""
+    """Makes the output, whole or not at all. The first slab that fails halts all others, and its line and status are passed on."""
     place, name = os.environ.get("TMPDIR") or "/tmp", "standard output" if given.output == "-" else given.output
-    apart = aside(os.path.abspath(f"{place}/stlslice"))
-    with told(f"{name} can't be written"), whole_file(given.output) as file, apart as folder:
+    folder = aside(os.path.abspath(f"{place}/stlslice"))
+    with told(f"{name} can't be written"), whole_file(given.output, given.part) as file:
         with told(f"the temporary folder {place} can't be used"):
             os.mkdir(folder, 0o700)
             call = call_of_parallel(given, slicer, slabs, folder)
@@ -219,13 +213,12 @@ def make(given, slicer, slabs):
         if status and (line or given.hosts):
             raise Refused(None, status, line)
         # parallel tells the command of the slab that failed
-        number = next((k for k, it in enumerate(slabs.words, 1) if f" {it} " in of_parallel), None)
-        which = f"slab {number} of {len(slabs.words)}" if number else "a slab"
+        numbers = [k for k, it in enumerate(slabs.words, 1) if f" {it} " in of_parallel]
+        which = f"slab {numbers[0]} of {len(slabs.words)}" if numbers else "a slab"
         line = f"{which} ended with status {status} and no line: is the temporary folder {place} full, or memory short?"
         refuse_if(status, line, status)
         line = f"{name} can't be written: images of slabs are lost; is the temporary folder {place} full?"
         refuse_if(not slabs.are_whole(given, file), line)
-        look_at_output(given.output, given.part)
         if given.output == "-":
             pour(file)
 

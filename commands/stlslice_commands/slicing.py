@@ -2,15 +2,18 @@
 
 from functools import partial
 
-from .faults import Progress, Refused, answers, finish, in_mm, refuse_if, say
-from .parts import OPEN, Part, size_of
+from .faults import Progress, Refused, finish, in_mm, refuse_if, say
+from .images import joined
+from .parts import Part
 
 
 class Sliced:
-    """A part on a screen: its size in micrometres, how many layers it has, and their images."""
+    """A part on a screen: how many layers it has, and their images."""
 
     def __init__(self, given):
-        self.given, self.part, self.size, self.lit = given, Part(given), None, 0
+        self.given, self.part, self.lit = given, Part(given), 0
+        if self.part.unit and not 1000 <= max(self.part.size) <= 1_000_000:
+            say(f"the part is {in_mm(self.part.size)} mm: is {given.unit} the unit of its numbers? --unit takes mm, cm, m or inch")
         self.meshes = self.placed()
         self.layers = len(self.meshes[0])
         self.areas = self.areas_of_lit()
@@ -18,43 +21,24 @@ class Sliced:
     def placed(self):
         """The meshes of the part on the screen. It is turned by a quarter for a screen in portrait, and by one more if that was
         asked for. A part that doesn't fit so is refused."""
-        usual = 1 if self.given.printer and self.given.printer.is_portrait else 0
-        more = 1 if self.given.turn == "" else 0
-        meshes = self.opened(usual + more)
-        if not meshes and self.given.turn == "auto":
-            meshes = self.opened(usual + 1)
-            if meshes:
-                say("the part is turned by a quarter: it fits only so")
-        if not meshes:
-            self.refuse_large(usual, more)
-        return meshes
-
-    def opened(self, quarters):
-        """The meshes of the part that is turned so, or none if it doesn't fit."""
-        given = self.given
-        try:
-            meshes = self.part.open(canvas=given.canvas, pitch=given.pitch, layer=given.layer, rule=given.rule, turn=quarters)
-        except Refused as fault:
-            if fault.status == OPEN:
-                self.measure(self.part.box())
-            raise
-        self.measure(meshes[0].box if meshes else self.part.box())
-        return [] if given.height and self.size[2] > given.height else meshes
-
-    def measure(self, box):
-        """Asks for the unit of a part that is very small or very large, once."""
-        asked, self.size = self.size, size_of(box)
-        if not asked and self.part.unit and not 1000 <= max(self.size) <= 1_000_000:
-            say(f"the part is {in_mm(self.size)} mm: is {self.part.unit} the unit of its numbers? --unit takes mm, cm, m or inch")
+        given, usual = self.given, 1 if self.given.printer and self.given.printer.is_portrait else 0
+        how = dict(canvas=given.canvas, pitch=given.pitch, layer=given.layer, rule=given.rule)
+        for more in {None: [0], "": [1], "auto": [0, 1]}[given.turn]:
+            meshes = self.part.open(turn=usual + more, **how)
+            if meshes and not (given.height and self.part.size[2] > given.height):
+                if more and given.turn == "auto":
+                    say("the part is turned by a quarter: it fits only so")
+                return meshes
+        self.refuse_large(usual, given.turn == "")
 
     def refuse_large(self, usual, more):
-        given = self.given
+        given, size = self.given, self.part.size
         sides = [count * pitch for count, pitch in zip(given.canvas, given.pitch)]
         # along the sides of the part, if it is turned by an even or an odd number of quarters
         rooms = [it + ([given.height] if given.height else []) for it in (sides, sides[::-1])]
         screen = f"the {given.printer.model}" if given.printer else "the canvas"
-        line = f"the part doesn't fit: it is {in_mm(self.size)} mm, {screen} {in_mm(rooms[usual])} mm"
-        if all(length <= room for length, room in zip(self.size, rooms[(usual + 1 - more) % 2])):
+        line = f"the part doesn't fit: it is {in_mm(size)} mm, {screen} {in_mm(rooms[usual])} mm"
+        if all(length <= room for length, room in zip(size, rooms[(usual + 1 - more) % 2])):
             line += "; it fits without --turn" if more else "; turned by a quarter it fits: --turn"
         elif more:
             line += "; turned by a quarter it doesn't fit either"
@@ -63,31 +47,25 @@ class Sliced:
     def areas_of_lit(self):
         """How many pixels of each mesh's layers are lit. A part of which none is lit is refused."""
         Progress.show("slicing", is_new=True)
-        rule, is_one = self.given.rule, len(self.meshes) == 1
-        rules = [rule, *{"positive": ["nonzero"], "nonzero": [] if is_one else ["positive"]}.get(rule, [])]
-        found = iter(answers(*(partial(mesh.areas, it) for it in rules for mesh in self.meshes)))
-        areas, *others = [[next(found) for _ in self.meshes] for _ in rules]
-        totals, *other_totals = [list(map(sum, it)) for it in (areas, *others)]
-        self.part.refuse_dark(totals, rule, self.size)
+        rule, count = self.given.rule, len(self.meshes)
+        other = {"positive": "nonzero", "nonzero": "positive" if count > 1 else None}.get(rule)
+        found = self.part.asked(*(partial(mesh.areas, it) for it in (rule, other) if it for mesh in self.meshes))
+        pixels, by_other = list(map(sum, found[:count])), list(map(sum, found[count:]))
+        self.part.refuse_dark(pixels, rule)
         # What `nonzero` lights and `positive` doesn't is enclosed more often inwards than outwards. Images of several meshes
         # can't be joined then, since an overlap with another mesh may be dark.
-        if others and other_totals != [totals]:
+        if other and pixels != by_other:
             line = "a shell is inside out, or bounds a hollow: --shells joins such shells by --rule evenodd alone"
-            refuse_if(not is_one, line)
-            say(f"a shell is inside out somewhere: {self.millilitres(*totals):.3f} ml by --rule positive, "
-                f"{self.millilitres(*other_totals[0]):.3f} ml by --rule nonzero; look at the layers")
-        return areas
+            refuse_if(count > 1, line)
+            say(f"a shell is inside out somewhere: {self.millilitres(*pixels):.3f} ml by --rule positive, "
+                f"{self.millilitres(*by_other):.3f} ml by --rule nonzero; look at the layers")
+        return found[:count]
 
     def pngs(self):
         """Each layer as a PNG and how many of its pixels are lit, the lowest first."""
         given = self.given
-        words = given.depth, given.mirror_x, given.mirror_y, given.workers
-        if len(self.meshes) == 1:
-            layers = zip(self.meshes[0].pngs(*words), self.areas[0])
-        else:
-            from .images import joined
-            streams = zip(zip(*(mesh.pngs(*words) for mesh in self.meshes)), zip(*self.areas))
-            layers = (joined(pngs, areas, given.rule) for pngs, areas in streams)
+        streams = zip(*(mesh.pngs(given.depth, given.mirror_x, given.mirror_y, given.workers) for mesh in self.meshes))
+        layers = (joined(pngs, areas, given.rule) for pngs, areas in zip(streams, zip(*self.areas)))
         for png, lit in Progress.through(layers, self.layers):
             self.lit += lit
             yield png, lit
@@ -99,5 +77,5 @@ class Sliced:
     def finish(self, file=None, **more):
         """Writes the last line, and what goes to standard output."""
         volume = self.millilitres(self.lit)
-        line = f"{in_mm(self.size)} mm, {volume:.3f} ml, {self.layers} layers"
-        finish(self.given, line, file, self.layers, self.size, volume, **more)
+        line = f"{in_mm(self.part.size)} mm, {volume:.3f} ml, {self.layers} layers"
+        finish(self.given, line, file, self.layers, self.part.size, volume, **more)

@@ -109,13 +109,10 @@ def parser(description, output):
 def read(made):
     """The options given, as the parser reads them, with what a printer brings in its place."""
     given = made.parse_args(quarters(sys.argv[1:]))
-    own = [name for name in ("canvas", "pitch", "mirror_x", "mirror_y", "height") if getattr(given, name)]
-    if given.printer and own:
-        made.error(f"--printer {given.printer.model} brings its own: leave out --{own[0].replace('_', '-')}")
-    if given.printer:
-        it = given.printer
-        given.canvas, given.pitch, given.height = it.canvas(), it.pitch(), it.height
-        given.mirror_x, given.mirror_y = it.mirror_x, it.mirror_y
+    for name in ("canvas", "pitch", "mirror_x", "mirror_y", "height") if given.printer else ():
+        if getattr(given, name):
+            made.error(f"--printer {given.printer.model} brings its own: leave out --{name.replace('_', '-')}")
+        setattr(given, name, getattr(given.printer, name))
     if not given.canvas or not given.pitch:
         made.error("the printer is missing: --printer MODEL for one that --printer help lists; for another --canvas COLUMNSxROWS "
                    "and --pitch N (its screen in pixels, and a pixel in micrometres)")
@@ -124,5 +121,4 @@ def read(made):
 
 def quarters(words):
     """The words with a value of each `--turn`, since argparse would take the part as one: with none it is empty."""
-    bare = [word == "--turn" and words[at + 1:at + 2] != ["auto"] for at, word in enumerate(words)]
-    return ["--turn=" if is_bare else word for word, is_bare in zip(words, bare)]
+    return ["--turn=" if word == "--turn" and after != "auto" else word for word, after in zip(words, [*words[1:], ""])]

@@ -74,7 +74,7 @@ def demo(name):
 def printer(it):
     """A printer's screen and exposures. Lengths are micrometres, and the sides of a pixel fractions of whole numbers."""
     told = {name: value for name, value in vars(it).items() if name not in ("columns", "rows", "width", "depth", "source")}
-    return {**told, "canvas": it.canvas(), "pitch": [[side.numerator, side.denominator] for side in it.pitch()], "height": float(it.height)}
+    return {**told, "pitch": [[side.numerator, side.denominator] for side in it.pitch], "height": float(it.height)}
 
 
 def main():

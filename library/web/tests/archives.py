@@ -198,8 +198,8 @@ def try_settings(page):
     every, wanted = [], []
     for _ in range(SETTINGS):
         printer = draw.choice([None, *known])
-        sides = printer.pitch() if printer else tuple(Fraction(draw.randint(1, 100000), draw.choice([1, 10, 100, 1000])) for _ in "xy")
-        canvas = printer.canvas() if printer else (draw.randint(1, 16384), draw.randint(1, 16384))
+        sides = printer.pitch if printer else tuple(Fraction(draw.randint(1, 100000), draw.choice([1, 10, 100, 1000])) for _ in "xy")
+        canvas = printer.canvas if printer else (draw.randint(1, 16384), draw.randint(1, 16384))
         given = SimpleNamespace(
             printer=printer, canvas=canvas, pitch=sides, layer=draw.randint(1, 1000), mirror_x=draw.random() < 0.5,
             mirror_y=draw.random() < 0.5, exposure=round(draw.uniform(0.1, 99), draw.randint(0, 6)), fade=draw.randint(0, 60),
