@@ -1,6 +1,7 @@
 """OBJ and 3MF as points in whole micrometres, and triangles of their indices. Each coordinate is rounded once, at the end."""
 
 import decimal
+import functools
 import io
 import itertools
 import re
@@ -131,10 +132,14 @@ def is_fan(corners):
     turns = zip(corners, corners[1:] + corners[:1], corners[2:] + corners[:2])
     normal = tuple(map(sum, zip(*(normal_of(*it) for it in triangles))))
     slack = FLAT ** 2 * dot(normal, normal)
-    # by how much the way from a over b to c turns to the left; to the right it may if b is near the line through a and c
-    ways = ((dot(normal, normal_of(a, b, c)), minus(c, a)) for a, b, c in itertools.chain(turns, triangles))
+
+    def is_left(a, b, c):
+        """Whether the way from a over b to c turns to the left, or b is near the line through a and c."""
+        left, across = dot(normal, normal_of(a, b, c)), minus(c, a)
+        return left >= 0 or left ** 2 <= slack * dot(across, across)
+
     return (slack > 0 and all(dot(normal, minus(it, first)) ** 2 <= slack for it in corners)
-            and all(left >= 0 or left ** 2 <= slack * dot(across, across) for left, across in ways))
+            and all(is_left(*it) for it in itertools.chain(turns, triangles)))
 
 
 def normal_of(a, b, c):
@@ -177,8 +182,12 @@ def read_3mf(data, most):
 def model_of(archive):
     """The name of the entry with the model, as the package's relationships have it."""
     found = []
-    fed(opened(archive, "_rels/.rels", LINE),
-        lambda _, words: found.extend([words["Target"].lstrip("/")] if words.get("Type") == MODEL else []))
+
+    def start(_, words):
+        if words.get("Type") == MODEL:
+            found.append(words["Target"].lstrip("/"))
+
+    fed(opened(archive, "_rels/.rels", LINE), start)
     refuse_if(len(found) != 1, "its relationships name no model, or several")
     return found[0]
 
@@ -300,6 +309,7 @@ class Object:
             other.place([[dot(row, it) + (it[3] if k == 3 else 0) for k, row in rows] for it in columns], points, triangles)
 
 
+@functools.lru_cache(maxsize=256)
 def columns_of(text):
     """The three columns of a transform. By the first three numbers of each x, y and z are multiplied, and the last is added."""
     words = text.encode().split()

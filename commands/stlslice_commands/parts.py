@@ -1,5 +1,6 @@
 """What people have: an STL, ASCII or binary, an OBJ, a 3MF, or another format, which is refused with the command that converts it."""
 
+import functools
 import re
 import sys
 from concurrent.futures import ThreadPoolExecutor
@@ -17,7 +18,7 @@ ONE_VOXEL = {"pitch": 1000, "layer": 1000, "grid": (1, 1, 1, 0, 0, 0)}
 
 class Part:
     """A part that was read, and can be opened: as one mesh, or with --shells as one for each group of its shells. `unit` is the one
-    that was given for its numbers, or None if the file has its own; `size` is that of its box, in micrometres."""
+    that was given for its numbers, or None if the file has its own."""
 
     def __init__(self, given):
         Progress.show("reading", is_new=True)
@@ -32,18 +33,28 @@ class Part:
             points, groups, more = grouped(facets)
             # an open edge is told as it is without the facets that are put to each group
             self.asked(*(partial(stlslice.open_mesh, points, it, **ONE_VOXEL) for it in groups))
-            self.calls, self.box = [partial(stlslice.open_mesh, points, it + more) for it in groups], box_of(points, more)
+            self.calls, self.to_box = [partial(stlslice.open_mesh, points, it + more) for it in groups], partial(box_of, points, more)
         elif arrays:
-            self.calls, self.box = [partial(stlslice.open_mesh, *arrays)], box_of(*arrays)
+            self.calls, self.to_box = [partial(stlslice.open_mesh, *arrays)], partial(box_of, *arrays)
         else:
-            self.calls = [partial(stlslice.open, data, unit=given.unit)]
-            self.box, = self.asked(partial(stlslice.box, data, given.unit))
-        refuse_if(not self.box.facets, "the part has no facets")
-        self.size = [after - before for before, after in zip(self.box.low, self.box.high)]
+            self.calls, self.to_box = [partial(stlslice.open, data, unit=given.unit)], partial(stlslice.box, data, given.unit)
 
     def open(self, **how):
         """The meshes, opened as `how` says in the words of `stlslice.open`; none if the part doesn't fit its canvas."""
-        return self.asked(*(partial(call, **how) for call in self.calls))
+        meshes = self.asked(*(partial(call, **how) for call in self.calls))
+        if meshes:
+            self.box = meshes[0].box
+        return meshes
+
+    @functools.cached_property
+    def box(self):
+        """The part's box. It is read by itself if the part isn't opened."""
+        return self.asked(self.to_box)[0]
+
+    @property
+    def size(self):
+        """The sides of the box, in micrometres."""
+        return [after - before for before, after in zip(self.box.low, self.box.high)]
 
     def asked(self, *calls):
         """What the library's calls return, each made in a thread of its own: Python heeds a signal only between its own steps. A
@@ -58,6 +69,7 @@ class Part:
             return []
         if isinstance(fault, MemoryError) or not isinstance(fault, stlslice.Fault):
             raise fault
+        refuse_if(str(fault) == "no facet is left" and not self.box.facets, "the part has no facets")
         is_large = "too many facets" in str(fault)
         raise Refused(SHELLS if is_large and self.shells is False else None, 3 if is_large else fault.status, fault.line + "\n")
 

@@ -12,8 +12,6 @@ class Sliced:
 
     def __init__(self, given):
         self.given, self.part, self.lit = given, Part(given), 0
-        if self.part.unit and not 1000 <= max(self.part.size) <= 1_000_000:
-            say(f"the part is {in_mm(self.part.size)} mm: is {given.unit} the unit of its numbers? --unit takes mm, cm, m or inch")
         self.meshes = self.placed()
         self.layers = len(self.meshes[0])
         self.areas = self.areas_of_lit()
@@ -23,13 +21,24 @@ class Sliced:
         asked for. A part that doesn't fit so is refused."""
         given, usual = self.given, 1 if self.given.printer and self.given.printer.is_portrait else 0
         how = dict(canvas=given.canvas, pitch=given.pitch, layer=given.layer, rule=given.rule)
-        for more in {None: [0], "": [1], "auto": [0, 1]}[given.turn]:
-            meshes = self.part.open(turn=usual + more, **how)
+        turns = {None: [0], "": [1], "auto": [0, 1]}[given.turn]
+        for more in turns:
+            try:
+                meshes = self.part.open(turn=usual + more, **how)
+            finally:
+                if more == turns[0]:
+                    self.ask_for_unit()
             if meshes and not (given.height and self.part.size[2] > given.height):
                 if more and given.turn == "auto":
                     say("the part is turned by a quarter: it fits only so")
                 return meshes
         self.refuse_large(usual, given.turn == "")
+
+    def ask_for_unit(self):
+        """Asks for the unit of a part that is very small or very large, also if it is refused."""
+        length = max(self.part.size)
+        if self.part.unit and (0 < length < 1000 or length > 1_000_000):
+            say(f"the part is {in_mm(self.part.size)} mm: is {self.part.unit} the unit of its numbers? --unit takes mm, cm, m or inch")
 
     def refuse_large(self, usual, more):
         given, size = self.given, self.part.size
