@@ -1,6 +1,6 @@
 // What the page says: of the part, of a layer, of what is under way, and of faults, with hints.
 
-const TOOLS = ["nearer", "farther", "whole", "save", "up", "down", "save_pngs", "save_archive"];
+const TOOLS = ["nearer", "farther", "whole", "save", "up", "down", "save_pngs", "save_archive"]; // for a part that is opened
 const grouped = (it) => it.toLocaleString("en-US");
 const mm = (micrometres) => (micrometres / 1000).toFixed(3);
 const square_mm = (pixels) => pixels * opened.sides[0] * opened.sides[1] / 1e6;

@@ -1,7 +1,8 @@
 // The slicer, in a worker: the library as WebAssembly, with one part and its mesh at a time. A message has the name of
 // a call and a number, and the reply has the same number. Calls run one after the other.
 
-const DONE = 0, OPEN = 4, MEMORY = 6, NO_ROOM = 7, NO_FIT = 9, LINE = 256;
+const DONE = 0, OPEN = 4, MEMORY = 6, NO_ROOM = 7, NO_FIT = 9; // the library's statuses
+const LINE = 256; // bytes of a fault's line
 const HEAD = 16; // bytes before the rows of an image, of which the words take no more
 const FITTED = 0, GIVEN = 1, SCREEN = 2; // where the grid lies
 const AREAS_AT_ONCE = 32; // layers
