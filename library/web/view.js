@@ -13,6 +13,7 @@ const css = (name) => styles.getPropertyValue(`--${name}`).trim();
 const colour_of = (name) => [1, 3, 5].map((at) => parseInt(css(name).slice(at, at + 2), 16));
 const dot_of = ([red, green, blue]) => (255 << 24 | blue << 16 | green << 8 | red) >>> 0; // as in an ImageData
 
+// The canvas's pen, when the canvas has a dot for each of the screen's and nothing is drawn.
 function fitted(canvas) {
     const width = Math.round(canvas.clientWidth * dense()), height = Math.round(canvas.clientHeight * dense());
     if (canvas.width !== width || canvas.height !== height) Object.assign(canvas, { width, height });
