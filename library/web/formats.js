@@ -9,7 +9,7 @@ function exposure_of(number, { exposure, first_exposure, fade }) {
     return faded > fade ? exposure : first_exposure - faded * ((first_exposure - exposure) / (fade + 1));
 }
 
-// The name of an archive's images, of the archive's own.
+// What the names of an archive's images begin with: its own name, without the ending.
 const job_of = (name) => name.replace(/\.sl1s?$/i, "").replace(/[^\p{L}\p{N}_.-]/gu, "_") || "part";
 
 const shown = (text) => text.replace(/[\0-\x1f\x7f-\x9f]/g, (it) => `\\x${it.charCodeAt(0).toString(16).padStart(2, "0")}`);

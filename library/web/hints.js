@@ -1,23 +1,24 @@
 // What a file is if it is not an STL, what to do about it on each system, and which hint of docs/refused.md comes first.
 
 const SLICER = "open it in PrusaSlicer, then File > Export > Export Plate as STL";
-const BLENDER = "open it in Blender, then File > Export > STL";
 const IMPORT = "open it in Blender by File > Import, then File > Export > STL";
+const MESHLAB = "open it in MeshLab, then File > Export Mesh As";
+const ASSIMP = "assimp export NAME MADE";
 const ARCHIVER = "unpack it with 7-Zip or a like program";
+const everywhere = (way) => [way, way, way];
+const of_each = (kinds, ways) => Object.fromEntries(kinds.map((kind) => [kind, ways]));
 
 // What to do with a kind of files: on Windows, macOS and Linux. NAME is the file, MADE the STL that is made.
 const WAYS = {
     "3MF": [SLICER, SLICER, "prusa-slicer --export-stl --output MADE NAME"],
-    AMF: [SLICER, SLICER, "assimp export NAME MADE"],
-    OBJ: [IMPORT, IMPORT, "assimp export NAME MADE"],
-    PLY: [IMPORT, IMPORT, "assimp export NAME MADE"],
-    OFF: ["open it in MeshLab, then File > Export Mesh As", "open it in MeshLab, then File > Export Mesh As",
-        "assimp export NAME MADE"],
-    STEP: Array(3).fill("open it in FreeCAD, choose the body, then File > Export, as STL mesh"),
-    IGES: Array(3).fill("open it in FreeCAD, choose the body, then File > Export, as STL mesh"),
-    Blender: Array(3).fill(BLENDER),
-    SketchUp: Array(3).fill("open it in SketchUp, then File > Export > 3D Model, as STL"),
-    ...Object.fromEntries(["glTF", "FBX", "COLLADA", "VRML", "DXF"].map((kind) => [kind, Array(3).fill(IMPORT)])),
+    AMF: [SLICER, SLICER, ASSIMP],
+    OBJ: [IMPORT, IMPORT, ASSIMP],
+    PLY: [IMPORT, IMPORT, ASSIMP],
+    OFF: [MESHLAB, MESHLAB, ASSIMP],
+    ...of_each(["STEP", "IGES"], everywhere("open it in FreeCAD, choose the body, then File > Export, as STL mesh")),
+    Blender: everywhere("open it in Blender, then File > Export > STL"),
+    SketchUp: everywhere("open it in SketchUp, then File > Export > 3D Model, as STL"),
+    ...of_each(["glTF", "FBX", "COLLADA", "VRML", "DXF"], everywhere(IMPORT)),
     zip: ["right-click it, then Extract All", "double-click it", "unzip NAME"],
     gzip: [ARCHIVER, "double-click it", "zcat NAME > MADE"],
     "7z or RAR": [ARCHIVER, "unpack it with Keka or a like program", "7z x NAME"],
@@ -40,7 +41,8 @@ const ANOTHER = { title: "Another kind of file",
 // Hints by the word that does not fit, or by the kind of the file.
 const TELLING = [
     [/^[#;]/, "Comments"], [/^solid/i, "Several solids without their ends"], [/^end$/i, "Keywords in two words"],
-    [/^[-+]?\d*,\d/, "Decimal commas"], [/^[-+]?[\d.]+d[-+]?\d/i, "Exponents with D"], [/^[-+]?(nan|inf)|#(ind|qnan|inf)/i, "nan or inf as a coordinate"],
+    [/^[-+]?\d*,\d/, "Decimal commas"], [/^[-+]?[\d.]+d[-+]?\d/i, "Exponents with D"],
+    [/^[-+]?(nan|inf)|#(ind|qnan|inf)/i, "nan or inf as a coordinate"],
     [/^vertex$/i, "Facets of four and more corners"], [/^endloop$/i, "Facets of two corners"],
     [/^(facet|endsolid)$/i, "A facet that is not closed"],
 ];

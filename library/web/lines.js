@@ -18,7 +18,7 @@ const unlit_line = (size, rule, unit) => `no pixel is lit by --rule ${RULES[rule
 const inside_out_line = (positive, nonzero) => `a shell is inside out somewhere: ${fixed(positive, 3)} ml by --rule positive, `
     + `${fixed(nonzero, 3)} ml by --rule nonzero; look at the layers`;
 
-// Of a part that is larger than the screen, or higher than the printer. Its turn are quarters, one of them for a screen in portrait.
+// Of a part that is larger than the screen, or higher than the printer. `turn` counts quarters, one of them for a screen in portrait.
 function no_fit_line(size, { printer, canvas, pitch, turn }) {
     const usual = Number(printer?.is_portrait ?? false), is_turned = turn > usual, height = printer ? [printer.height] : [];
     const [width, depth] = canvas.map((count, axis) => quotient(BigInt(count) * BigInt(pitch[axis][0]), BigInt(pitch[axis][1])));

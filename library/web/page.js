@@ -1,7 +1,7 @@
 // What the page shows: a part, opened by the worker; one of its layers with its outlines; and the areas of all.
 
 const by = (id) => document.getElementById(id);
-const data = JSON.parse(by("data").textContent); // the modules, the demo parts and the hints
+const data = JSON.parse(by("data").textContent); // the modules, demo parts, printers and hints
 const CHUNK = 40; // milliseconds in which the worker finds areas before it looks for another call
 const QUIET = 120; // milliseconds for which no layer was asked for, before areas are looked for
 
@@ -10,6 +10,7 @@ let opened = null; // its mesh, as the worker reports it, with the options
 let shown = null; // the layer that is on the canvas
 let areas = []; // of the layers from the lowest on, as far as they are known
 let look = { zoom: 1, x: 0, y: 0 };
+let asked_last = 0; // when the worker last gave a layer
 
 const k_now = () => by("layer").valueAsNumber;
 const height_of = (k) => opened.origin[2] + (k + 0.5) * opened.options.layer;
@@ -24,7 +25,7 @@ const slice = latest(async (is_last) => {
     try {
         // also if another is wished by now, since the worker has this mesh
         const told = await slicer.open(options, of);
-        took({ ...told, options, fields, of });
+        show_part({ ...told, options, fields, of });
     } catch (fault) {
         // one that is too high is in the worker by then, in place of what is shown
         if (!fault.ended && (fault.status === REFUSED || is_last() && part === of)) refused(fault, of);
@@ -33,7 +34,7 @@ const slice = latest(async (is_last) => {
     }
 });
 
-function took(told) {
+function show_part(told) {
     const { options, of } = told, height = opened?.of === of ? height_of(k_now()) : of.height;
     const sides = options.screen?.pitch ?? [[options.pitch, 1], [options.pitch, 1]]; // of a pixel, in micrometres
     opened = { ...told, fractions: sides, sides: sides.map(([above, below]) => above / below) };
@@ -85,7 +86,6 @@ const show_layer = latest(async () => {
     tell_layer();
     draw_soon();
 });
-let asked_last = 0;
 
 function go(k) {
     if (!opened) return;

@@ -36,8 +36,9 @@ const save_all = latest(async (is_last, kind) => {
         await slicer.call("begin_zip", { name: is_archive ? name : null, given: archive_now(), now: moment() });
         for (let done = 0; goes_on() && done < of.layers; tell_progress(done, of.layers))
             done = await slicer.call("add_layers", { milliseconds: ADDING });
-        if (goes_on()) {
-            download(await slicer.call("whole_zip"), name);
+        const whole = goes_on() ? await readable(await slicer.call("whole_zip")) : null;
+        if (whole && goes_on()) {
+            download(whole, name);
             say(`saved: ${name}`);
         } else say(`stopped: ${name} is not saved`);
     } catch (fault) {
@@ -56,6 +57,16 @@ function is_archive_right() {
     judge_all();
     by("exposures").open ||= !by("archive").checkValidity();
     return by("archive").reportValidity();
+}
+
+// The Blob, if the browser had room for it. Else it can't be read, and a download of it would fail unseen.
+async function readable(blob) {
+    try {
+        await blob.slice(-1).arrayBuffer();
+    } catch {
+        throw new Error(`the browser has no room for its ${grouped(Math.ceil(blob.size / 1e6))} MB`);
+    }
+    return blob;
 }
 
 function download(blob, name) {

@@ -1,6 +1,6 @@
 // What the page says: of the part, of a layer, of what is under way, and of faults, with hints.
 
-const TOOLS = ["nearer", "farther", "whole", "save", "up", "down", "save_pngs", "save_archive"];
+const TOOLS = ["nearer", "farther", "whole", "save", "up", "down", "save_pngs", "save_archive"]; // for a part that is opened
 const grouped = (it) => it.toLocaleString("en-US");
 const mm = (micrometres) => (micrometres / 1000).toFixed(3);
 const square_mm = (pixels) => pixels * opened.sides[0] * opened.sides[1] / 1e6;
@@ -170,6 +170,7 @@ function refused(fault, of) {
     // a line of a file that is no text says nothing
     by("fault_place").textContent = kind.length ? ""
         : fault.place ?? edge_in(fault.message) ?? fit_in(fault.message) ?? many_in(fault.message) ?? (fault.stopped ? anew : "");
+    by("fault_asked").textContent = fault.asked ?? "";
     const found = kind.length || !fault.status ? kind : hints_for(fault.message, of.kind, fault.telling);
     const head = found.length > 1 ? "What this is, in most files:" : "What this is:";
     by("hints").replaceChildren(...found.length ? [element("h3", head)] : [], ...found.map((it) => hint(it, found.length < 3)));

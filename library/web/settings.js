@@ -102,7 +102,7 @@ function fraction_of(word) {
     return [above, below].map((it) => it / divisor(above, below));
 }
 
-// The screen of the form. Its turn are quarters: the images of a screen in portrait are turned, and so the part on it.
+// The screen of the form. `turn` counts quarters: the images of a screen in portrait are turned, and so the part on it.
 function screen_now() {
     if (!by("printer").value) return null;
     const printer = printer_now(), turn = Number(printer?.is_portrait ?? false) + Number(by("turn").checked);

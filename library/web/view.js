@@ -1,6 +1,7 @@
 // The picture of the layer: where it lies on the canvas, how it is drawn, and how hands move it.
 
-const MARGIN = 0.94, MOST_ZOOM = 400, MOST_SIDE = 8;
+const FILLED = 0.94; // how much of the canvas a whole image takes
+const MOST_ZOOM = 400, MOST_SIDE = 8;
 const SWIPE = 10; // pixels of the screen for a layer, if a finger swipes
 const KEPT_SEEN = 40; // pixels of the screen that stay seen of an image that is moved
 
@@ -12,6 +13,7 @@ const css = (name) => styles.getPropertyValue(`--${name}`).trim();
 const colour_of = (name) => [1, 3, 5].map((at) => parseInt(css(name).slice(at, at + 2), 16));
 const dot_of = ([red, green, blue]) => (255 << 24 | blue << 16 | green << 8 | red) >>> 0; // as in an ImageData
 
+// The canvas's pen, when the canvas has a dot for each of the screen's and nothing is drawn.
 function fitted(canvas) {
     const width = Math.round(canvas.clientWidth * dense()), height = Math.round(canvas.clientHeight * dense());
     if (canvas.width !== width || canvas.height !== height) Object.assign(canvas, { width, height });
@@ -25,7 +27,7 @@ function fitted(canvas) {
 // mirrored, as on a printer's screen.
 function framed() {
     const { width, height } = by("image"), { columns, rows, sides } = opened, { x, y } = mirrors_now();
-    const fit = Math.min(width / (columns * sides[0]), height / (rows * sides[1])) * MARGIN * look.zoom;
+    const fit = Math.min(width / (columns * sides[0]), height / (rows * sides[1])) * FILLED * look.zoom;
     const [across, down] = sides.map((it) => fit * it), wide = across * columns, high = down * rows;
     return { across, down, left: (width - wide) / 2 + look.x * dense(), top: (height - high) / 2 + look.y * dense(), wide, high, x, y };
 }

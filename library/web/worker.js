@@ -1,7 +1,8 @@
 // The slicer, in a worker: the library as WebAssembly, with one part and its mesh at a time. A message has the name of
 // a call and a number, and the reply has the same number. Calls run one after the other.
 
-const DONE = 0, MEMORY = 6, NO_ROOM = 7, NO_FIT = 9, LINE = 256;
+const DONE = 0, OPEN = 4, MEMORY = 6, NO_ROOM = 7, NO_FIT = 9; // the library's statuses
+const LINE = 256; // bytes of a fault's line
 const HEAD = 16; // bytes before the rows of an image, of which the words take no more
 const FITTED = 0, GIVEN = 1, SCREEN = 2; // where the grid lies
 const AREAS_AT_ONCE = 32; // layers
@@ -134,14 +135,16 @@ function open(options) {
 // The fault of stlslice-sl1 in place of the library's, which is the program's. It tells the size of all facets, and if there are none.
 function refusal(fault, options, at) {
     if (fault.status === NO_FIT) return no_fit(size_between(box(at, options)), options);
+    if (fault.status === OPEN) return asking(fault, size_between(box(at, options)), options);
     const is_programs = !is_binary && !options.screen && options.unit <= MOST_UNIT;
     if (fault.message === NOTHING_LEFT && !is_programs && !box(at, options).facets) return new Fault(REFUSED, NO_FACETS);
     return placed(fault);
 }
 
-// Beside the line that it does not fit the unit is asked for, as the command does.
-const no_fit = (size, { screen, unit }) => Object.assign(new Fault(REFUSED, no_fit_line(size, screen)),
-    is_odd(size) ? { place: unit_line(size, unit) } : {});
+const no_fit = (size, options) => asking(new Fault(REFUSED, no_fit_line(size, options.screen)), size, options);
+
+// With a fault that may come from a wrong unit goes the line that asks for it, as the command does.
+const asking = (fault, size, { unit }) => Object.assign(fault, is_odd(size) ? { asked: unit_line(size, unit) } : {});
 
 // The box of the part's facets, which come first in a shape.
 function box(at, { unit }) {
@@ -238,8 +241,8 @@ async function answer({ id, call, value }) {
         const found = await calls[call](value);
         postMessage({ id, value: found }, moved);
     } catch (error) {
-        const { status = null, message: line, place, telling } = error;
-        postMessage({ id, fault: { status, line, place, telling, stopped: !!stopped } });
+        const { status = null, message: line, place, asked, telling } = error;
+        postMessage({ id, fault: { status, line, place, asked, telling, stopped: !!stopped } });
     }
 }
 

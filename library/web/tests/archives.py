@@ -1,6 +1,7 @@
 """What the page saves of all layers beside what the commands make: every entry's bytes, and the heads of the zip; and settings
 for printers that the page does not place parts for."""
 
+import io
 import json
 import math
 import os
@@ -10,9 +11,11 @@ import shutil
 import struct
 import subprocess
 import sys
+import time
 import zipfile
 from fractions import Fraction
 from types import SimpleNamespace
+from unittest import mock
 
 from common import ROOT, example, field_of, holds, same
 from files import binary_of, gear
@@ -172,6 +175,33 @@ def try_wrong_fields(page):
     os.remove(page.saved("bracket.sl1", "save_archive"))
 
 
+def try_limits(page):
+    """With more entries, or more bytes, than 16 and 32 bits hold a zip is the one that Python's zipfile writes. Here the limits are
+    small, and each browser packs such short entries in the same way."""
+    names = [f"{number}\u00e9.png" for number in range(9)]
+    for entries, most, held in ((9, 999, 999), (8, 999, 999), (9, 200, 0), (9, 500, 100), (0, 40, 50)):
+        found = page.in_worker(f"""(async () => {{
+            const zip = new Zip({MOMENT}, {{ entries: {entries}, bytes: {most}, held: {held} }});
+            for (const name of {json.dumps(names)}) await zip.add(name, new TextEncoder().encode(name[0]));
+            return [...new Uint8Array(await zip.blob().arrayBuffer())];
+        }})()""")
+        made = io.BytesIO()
+        with mock.patch.multiple(zipfile, ZIP_FILECOUNT_LIMIT=entries, ZIP64_LIMIT=most), zipfile.ZipFile(made, "w") as archive:
+            for name in names:
+                archive.writestr(zipfile.ZipInfo(name, time.gmtime(MOMENT)[:6]), name[0], zipfile.ZIP_DEFLATED)
+        same(bytes(found), made.getvalue(), f"a zip of limits {entries} and {most}")
+
+
+def try_no_room(page):
+    """A zip for which the browser has no room is not said to be saved."""
+    opened_in(page, example("bracket"), {**screen(640, 480, "100"), "height": 500})
+    page.value("Blob.prototype.slice = () => ({ arrayBuffer: () => Promise.reject(new Error('no')) }); by('save_pngs').click()")
+    page.until("!save_all.is_running()")
+    same([page.text("warnings"), page.text("said")], ["bracket_pngs.zip is not saved: the browser has no room for its 1 MB", ""],
+         "what is said")
+    same("bracket_pngs.zip" in os.listdir(page.browser.saved), False, "whether it is saved")
+
+
 def numbers():
     """Numbers of many sizes, and exact halves of the last digit that is written."""
     draw = random.Random(54)
@@ -226,6 +256,8 @@ def try_all(page, room, program, every):
     told = try_archives(page, room, program, every)
     try_pngs(page, room, program)
     try_wrong_fields(page)
+    try_limits(page)
+    try_no_room(page)
     try_numbers(page)
     try_settings(page)
     return told

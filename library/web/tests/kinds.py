@@ -10,10 +10,15 @@ import zipfile
 
 from common import example, holds, same
 
+UNPACK = "Unpack it, and choose the STL that is in it. If there is none, export the part as STL from the program that made it. To unpack:"
+CONVERT = "Export the part as STL from the program that made it. If you have only this file:"
+AGAIN = "Export the part again as STL. Or, on a command line of Linux:"
+
 # Files that are not STLs: what the page says of each first
 KINDS = {
     "part.3mf": ("A 3MF file, not an STL", "prusa-slicer --export-stl --output part.stl part.3mf"),
-    "part.zip": ("A zip file, not an STL", "unzip part.zip"),
+    "part.zip": ("A zip file, not an STL",
+                 f"{UNPACK}Windowsright-click it, then Extract AllmacOSdouble-click itLinuxunzip part.zip"),
     "part.stl.gz": ("A gzip file, not an STL", "zcat part.stl.gz > part.stl"),
     "packed.stl": ("A gzip file, not an STL", "zcat packed.stl > packed-2.stl"),
     "other.stl": ("An OBJ file, not an STL", "cp other.stl other.obj && assimp export other.obj other-2.stl"),
@@ -34,9 +39,10 @@ KINDS = {
     "ascii.fbx": ("An FBX file, not an STL", "Blender by File > Import"),
     "part.dae": ("A COLLADA file, not an STL", "Blender by File > Import"),
     "cut.stl": ("A binary STL that is not whole, or another kind of file", "Get it again"),
-    "mark.stl": ("Byte order mark", "sed"), "wide.stl": ("UTF-16", "iconv"),
+    "mark.stl": ("Byte order mark", f"{AGAIN}sed "), "wide.stl": ("UTF-16", f"{AGAIN}iconv "),
 }
 
+PACKED = ("part.zip", "part.stl.gz", "packed.stl")
 OF_NO_KIND = ("made for one printer", "Download the part itself", "no part in it", "export that as STL")  # the same on each system
 LINES = re.compile("^An? (3MF|zip|gzip|OBJ|PLY|OFF|AMF) ")  # kinds for which the commands have a line
 NOT_WHOLE = ("the part is no text, and no whole binary STL: its header counts 12 facets, which take 684 bytes, and it has 584")
@@ -90,6 +96,7 @@ def try_kinds(page, room):
         same("Linuxstlslice-sl1 takes it as it is" in told, is_taken, f"whether the commands take {name}")
         if title.endswith(", not an STL") and words not in OF_NO_KIND:
             same([it in told for it in ("Windows", "macOS", "Linux")], 3 * [True], f"the systems that {told!r} names")
+            same([UNPACK in told, CONVERT in told], [name in PACKED, name not in PACKED], f"what {told!r} says first")
 
 
 # What the beginnings of files are put together of, with all that the commands look for

@@ -51,6 +51,8 @@ def parts():
         ("no facets, binary", binary_of([]), CANVAS, WORDS),
         ("flat facets", in_text(*box(1, 0.0001, 0.0001)), CANVAS, WORDS),
         ("open", b"\n".join(bracket.split(b"\n")[:1] + bracket.split(b"\n")[8:]), CANVAS, WORDS),
+        ("open, small", in_text(*box(0.5, 0.25, 0.3)[1:]), CANVAS, WORDS),
+        ("open, large", binary_of(facets_of("bracket")[1:]), {**CANVAS, "unit": 3}, [*WORDS, "--unit", "m"]),
         ("cut", bracket[:30000], CANVAS, WORDS),
         ("nan", bytes(nan), CANVAS, WORDS),
         ("far", far, screen(640, 480, "19", "24"), ["--canvas", "640x480", "--pitch", "19x24"]),
@@ -98,11 +100,11 @@ def try_parts(page, room, program):
             continue
         holds(f"{name} is refused by the command", status)
         lines = [it for it in lines if not it.startswith(OTHER_LAYERS)]
-        lines.sort(key=lambda it: "the unit of its numbers?" in it)  # which the page has below the fault
+        lines.sort(key=lambda it: "the unit of its numbers?" in it)  # for which the page asks below the fault
         same(page.text("fault_line"), lines[0], f"the line of {name} {words}")
         same(page.text("fault_head"), f"{os.path.basename(path)} is refused, status {status}", f"the status of {name}")
-        place = page.text("fault_place")
-        same(lines[1:], [place] if place.startswith(("the part is ", "a mesh has ")) else [], f"more lines of {name}")
+        more = [page.text("fault_place"), page.text("fault_asked")]
+        same(lines[1:], [it for it in more if it.startswith(("the part is ", "a mesh has "))], f"more lines of {name}")
     return len(every)
 
 
