@@ -4,7 +4,7 @@ from functools import partial
 
 from .faults import Progress, Refused, finish, in_mm, refuse_if, say
 from .images import joined
-from .parts import Part
+from .parts import OPEN, Part
 
 
 class Sliced:
@@ -25,9 +25,12 @@ class Sliced:
         for more in turns:
             try:
                 meshes = self.part.open(turn=usual + more, **how)
-            finally:
-                if more == turns[0]:
+            except Refused as fault:
+                if fault.status == OPEN:
                     self.ask_for_unit()
+                raise
+            if more == turns[0]:
+                self.ask_for_unit()
             if meshes and not (given.height and self.part.size[2] > given.height):
                 if more and given.turn == "auto":
                     say("the part is turned by a quarter: it fits only so")
@@ -35,9 +38,9 @@ class Sliced:
         self.refuse_large(usual, given.turn == "")
 
     def ask_for_unit(self):
-        """Asks for the unit of a part that is very small or very large, also if it is refused."""
+        """Asks for the unit of a part that is very small or very large, also if it is open or doesn't fit."""
         length = max(self.part.size)
-        if self.part.unit and (0 < length < 1000 or length > 1_000_000):
+        if self.part.unit and not 1000 <= length <= 1_000_000:
             say(f"the part is {in_mm(self.part.size)} mm: is {self.part.unit} the unit of its numbers? --unit takes mm, cm, m or inch")
 
     def refuse_large(self, usual, more):
