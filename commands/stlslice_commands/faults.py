@@ -62,7 +62,7 @@ def look_at_output(output, part):
 
 
 def undo():
-    """Ends and removes what is under way. A signal may come meanwhile, and does so once more."""
+    """Ends and removes what is under way. If a signal comes meanwhile, all of it is done once more."""
     for it in reversed(UNDONE):
         it()
 

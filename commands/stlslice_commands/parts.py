@@ -1,10 +1,9 @@
 """What people have: an STL, ASCII or binary, an OBJ, a 3MF, or another format, which is refused with the command that converts it."""
 
-import functools
 import re
 import sys
 from concurrent.futures import ThreadPoolExecutor
-from functools import partial
+from functools import cached_property, partial
 
 import stlslice
 
@@ -46,7 +45,7 @@ class Part:
             self.box = meshes[0].box
         return meshes
 
-    @functools.cached_property
+    @cached_property
     def box(self):
         """The part's box. It is read by itself if the part isn't opened."""
         return self.asked(self.to_box)[0]

@@ -54,7 +54,8 @@ def words_given():
     add("names", nargs=argparse.REMAINDER, help=argparse.SUPPRESS)
     given, unknown = made.parse_known_args()
     unknown += [it for it in given.names[:1] if it.startswith("-")]
-    refuse_if(unknown, f"there is no option {''.join(unknown[:1])}", 2)
+    if unknown:
+        raise Refused(f"there is no option {unknown[0]}", 2)
     refuse_if(len(given.names) != (1 if given.words else 2), "it takes part.stl and layers.pbm, or --words and part.stl", 2)
     refuse_if(given.names[1:] == [""], "the output has no name", 2)
     of_pngs = given.depth or given.mirror_x or given.mirror_y
