@@ -1,9 +1,10 @@
 //! The work on a round of a text that several workers share. They weld the facets of the round before, fill the next round, and
 //! look for runs of facets in parts of this round.
-ghost use Rattle.std.specs.Prelude.{◌≡◌, ◌++◌, IfErr, List, OnOk, ℕ};
+ghost use Rattle.std.specs.Prelude.{◌≡◌, ◌≤◌, ◌+◌, ◌++◌, IfErr, List, Ok, OnOk, length, ℕ};
 ghost use Rattle.std.specs.Result.{result_and};
 ghost use Rattle.geometry.specs.Facet.{Facet};
 ghost use Rattle.geometry.specs.declared.limits.TheConstants.{FACET_LIMIT};
+ghost use Rattle.mesh_weld.specs.Welder.{welder_of};
 ghost use Rattle.micro_num.specs.declared.unit.Unit.{Unit as LengthUnit};
 ghost use Rattle.stl_text.specs.TextReader.{IsAfter};
 ghost use Rattle.mesh_reading.specs.Loading.{HasWelded, IsFilled};
@@ -14,7 +15,7 @@ use crate::round::{Round, Rounds};
 use devices::Source;
 use geometry::{FACET_LIMIT, Facet};
 use mesh_weld::Welder;
-use std::alloc::Allocator;
+use std::alloc::{AllocError, Allocator};
 use std::thread::{Threads, join_mut};
 use stl_text::{ChunkParts, FacetRuns, TextReader};
 
@@ -54,8 +55,7 @@ pub(crate) fn read_and_weld<R: Threads + Sync, A: Allocator + Copy + Send + Sync
 /// Adds facets to a welder, fills the next round, and finds runs in the parts of a chunk, by up to `workers` workers at the same
 /// time. If reading fails and memory is short, the failed read is the fault.
 ///
-/// A new thread may share the processor of the thread that made it, until that one waits. So the first new thread gets only
-/// parts, and others draw more of these meanwhile.
+/// A new thread may share the processor of the thread that made it, until that one waits. Others draw more of the parts meanwhile.
 fn weld_and_find<'t, R: Threads + Sync, A: Allocator + Copy + Send + Sync, I: Source>(
     rt: &R,
     workers: u32,
@@ -69,69 +69,37 @@ fn weld_and_find<'t, R: Threads + Sync, A: Allocator + Copy + Send + Sync, I: So
     ensures welded { OnOk result.1 (HasWelded facets.now welder.old welder.new) }
     ensures filled { IsFilled I.remaining I.Failures.failure_count source.old source.new next.old next.new result.1 }
 {
-    let mut find = || -> FacetRuns<A>
+    if workers < 3 {
+        return weld_then_fill(rt, source, next, parts, welder, facets);
+    }
+    // three workers have tasks of their own: those that number and name for the welder, and the one that fills
+    let others = workers - 3;
+    let find = || -> FacetRuns<A>
         ensures { result ≡ parts.entry.now }
     { parts.runs() };
-    let mut rest = || -> (FacetRuns<A>, Result<(), ReadFault>)
-        ensures found { result.0 ≡ parts.entry.now }
-        ensures welded { OnOk result.1 (HasWelded facets.entry.now welder.entry.now welder.exit.now) }
-        ensures filled { IsFilled I.remaining I.Failures.failure_count source.entry.now source.exit.now next.entry.now next.exit.now result.1 }
-    { weld_and_fill(rt, workers, source, next, parts, welder, facets) };
-    let (mut found, (more, done)) = join_mut(rt, &mut find, &mut rest);
-    found.add(more);
-    (found, done)
-}
-
-/// The same as [`weld_and_find`], by all workers but one, which looks for runs alone. The thread that calls fills first, and
-/// another worker welds first. If only one worker is left, it does both.
-fn weld_and_fill<'t, R: Threads + Sync, A: Allocator + Copy + Send + Sync, I: Source>(
-    rt: &R,
-    workers: u32,
-    source: &mut I,
-    next: &mut Round<A>,
-    parts: &ChunkParts<'t, A>,
-    welder: &mut Welder<A>,
-    facets: &[Facet],
-) -> (FacetRuns<'t, A>, Result<(), ReadFault>)
-    ensures found { result.0 ≡ parts.now }
-    ensures welded { OnOk result.1 (HasWelded facets.now welder.old welder.new) }
-    ensures filled { IsFilled I.remaining I.Failures.failure_count source.old source.new next.old next.new result.1 }
-{
-    if workers < 3 {
-        return weld_then_fill(source, next, parts, welder, facets);
-    }
-    // three workers have tasks of their own: the first new thread, the one that welds, and the one that fills
-    let others = workers - 3;
-    let mut weld = || -> (FacetRuns<A>, Result<(), ReadFault>)
-        ensures found { result.0 ≡ parts.entry.now }
-        ensures welded { OnOk result.1 (HasWelded facets.entry.now welder.entry.now welder.exit.now) }
-        ensures only { IfErr result.1 (λ fault. fault ≡ Memory) }
-    { weld_first(parts, welder, facets) };
     let mut fill = || -> (FacetRuns<A>, Result<(), ReadFault>)
         ensures found { result.0 ≡ parts.entry.now }
         ensures filled { IsFilled I.remaining I.Failures.failure_count source.entry.now source.exit.now next.entry.now next.exit.now result.1 }
     { fill_beside(rt, others, source, next, parts) };
-    let (welding, filling) = join_mut(rt, &mut weld, &mut fill);
-    both(welding, filling)
+    let room = with_room(welder, facets);
+    let (welded, (first, second), (mut all, filled)) = welder.add_beside(rt, room, &find, &mut fill);
+    all.add(first);
+    all.add(second);
+    (all, filled.and(weld_fault(welded)))
 }
 
-/// What two workers found, of which one welded and one filled. A fault of filling comes before one of welding.
-fn both<'t, A: Allocator>(
-    welding: (FacetRuns<'t, A>, Result<(), ReadFault>),
-    filling: (FacetRuns<'t, A>, Result<(), ReadFault>),
-) -> (FacetRuns<'t, A>, Result<(), ReadFault>)
-    requires { filling.0 ≡ welding.0 }
-    ensures found { result.0 ≡ welding.entry.0 }
-    ensures done { result.1 ≡ result_and filling.entry.1 welding.entry.1 }
+/// A failed allocation of a welder, as a fault of reading.
+fn weld_fault(welded: Result<(), AllocError>) -> Result<(), ReadFault>
+    ensures welded { OnOk result (welded ≡ Ok tt) }
+    ensures only { IfErr result (λ fault. fault ≡ Memory) }
 {
-    let (mut all, welded) = welding;
-    let (more, filled) = filling;
-    all.add(more);
-    (all, filled.and(welded))
+    welded?;
+    Ok(())
 }
 
-/// The same as [`weld_and_fill`] by one worker.
-fn weld_then_fill<'t, A: Allocator + Copy + Send + Sync, I: Source>(
+/// The same as [`weld_and_find`] by two workers, of which one looks for runs alone.
+fn weld_then_fill<'t, R: Threads + Sync, A: Allocator + Copy + Send + Sync, I: Source>(
+    rt: &R,
     source: &mut I,
     next: &mut Round<A>,
     parts: &ChunkParts<'t, A>,
@@ -142,23 +110,21 @@ fn weld_then_fill<'t, A: Allocator + Copy + Send + Sync, I: Source>(
     ensures welded { OnOk result.1 (HasWelded facets.now welder.old welder.new) }
     ensures filled { IsFilled I.remaining I.Failures.failure_count source.old source.new next.old next.new result.1 }
 {
-    let done = weld_next(welder, facets);
-    let (found, filled) = fill_first(source, next, parts);
-    (found, filled.and(done))
-}
-
-/// Adds facets to a welder, and then finds runs in the parts that nobody has drawn yet.
-fn weld_first<'t, A: Allocator + Copy + Send + Sync>(
-    parts: &ChunkParts<'t, A>,
-    welder: &mut Welder<A>,
-    facets: &[Facet],
-) -> (FacetRuns<'t, A>, Result<(), ReadFault>)
-    ensures found { result.0 ≡ parts.now }
-    ensures welded { OnOk result.1 (HasWelded facets.now welder.old welder.new) }
-    ensures only { IfErr result.1 (λ fault. fault ≡ Memory) }
-{
-    let welded = weld_next(welder, facets);
-    (parts.runs(), welded)
+    let mut find = || -> FacetRuns<A>
+        ensures { result ≡ parts.entry.now }
+    { parts.runs() };
+    let mut rest = || -> (Result<(), ReadFault>, (FacetRuns<A>, Result<(), ReadFault>))
+        ensures welded { OnOk result.0 (HasWelded facets.entry.now welder.entry.now welder.exit.now) }
+        ensures only { IfErr result.0 (λ fault. fault ≡ Memory) }
+        ensures found { result.1.0 ≡ parts.entry.now }
+        ensures filled { IsFilled I.remaining I.Failures.failure_count source.entry.now source.exit.now next.entry.now next.exit.now result.1.1 }
+    {
+        let welded = weld_next(welder, facets);
+        (welded, fill_first(source, next, parts))
+    };
+    let (mut found, (welded, (more, filled))) = join_mut(rt, &mut find, &mut rest);
+    found.add(more);
+    (found, filled.and(welded))
 }
 
 /// Fills the next round as [`fill_first`] does, while `others` workers look for runs too.
@@ -206,8 +172,21 @@ pub(crate) fn weld_next<A: Allocator + Copy + Send + Sync>(
     ensures welded { OnOk result (HasWelded facets.now welder.old welder.new) }
     ensures only { IfErr result (λ fault. fault ≡ Memory) }
 {
-    if facets.len() <= (FACET_LIMIT as usize).saturating_sub(welder.count()) {
-        welder.add(facets)?;
-    }
+    let room = with_room(welder, facets);
+    welder.add(room)?;
     Ok(())
+}
+
+/// The facets, or none of them if a welder would then have more than `FACET_LIMIT`.
+fn with_room<'f, A: Allocator + Copy + Send + Sync>(
+    welder: &Welder<A>,
+    facets: &'f [Facet],
+) -> &'f [Facet]
+    ensures few { length welder.now.kept + length welder.now.degenerate + length result.now ≤ FACET_LIMIT }
+    ensures all { (taken : List Facet) → welder.now ≡ welder_of taken → length (taken ++ facets.now) ≤ FACET_LIMIT → result.now ≡ facets.now }
+{
+    if facets.len() > (FACET_LIMIT as usize).saturating_sub(welder.count()) {
+        return &[];
+    }
+    facets
 }

@@ -17,6 +17,7 @@ pub mod FacetNumbers
 pub mod EdgeNumbering
 pub mod SomeNumbers
 pub mod Naming
+pub mod NamedMore
 pub mod Welds
 pub mod EdgeCount
 pub mod Degenerate

@@ -1,10 +1,11 @@
 -- Welders, and facets by the ids of their corners: an id is a point's index among the points found so far. A point may
 -- have two ids, if it found no free slot in the table.
-use Rattle.std.specs.Prelude.{◌≡◌, ℕ, ◌*◌, ◌<◌, ◌≤◌, not, List, ◌++◌, length, filter, flat_map, slice_index_or}
+use Rattle.std.specs.Prelude.{◌≡◌, ℕ, ◌+◌, ◌*◌, ◌<◌, ◌≤◌, not, List, ◌++◌, [], OnErr, OnOk, Result, length, filter, flat_map, slice_index_or}
 use Rattle.std.specs.List.{All, Contains}
 use Rattle.geometry.specs.Point.{Point, origin}
 use Rattle.geometry.specs.Facet.{Facet, corners}
 use Rattle.mesh_weld.specs.PointOrder.{IsAppendedOrSame}
+use Rattle.mesh_weld.specs.declared.names.Names.{Names}
 use Rattle.mesh_weld.specs.Solid.{HaveDistinctCorners, facet_by, facets_by, is_kept, kept_facets}
 
 -- the facets that were added: those with three distinct corners and the degenerate ones, each in their order
@@ -52,3 +53,17 @@ pub record AreNamed (points : List Point) (ids : List (List ℕ)) : Type 0 where
   pub covered : All (Contains (flat_map corners (facets_by points ids))) points
   pub few : length points ≤ 3 * length ids
   pub distinct : HaveDistinctCorners (facets_by points ids)
+
+-- after any facets that are named, more of them are named, in their order, and the degenerate ones are added to theirs
+pub record AreNamedMore {A : Type 0} (old : Names A) (ids : List (List ℕ)) (facets : List Facet) (new : Names A) (more : List (List ℕ)) : Type 0 where
+  pub named : (before : List (List ℕ)) → AreNamed old.points.items (before ++ ids) → AreNamed new.points.items (before ++ more)
+  pub added : (before : List (List ℕ)) → AreNamed old.points.items (before ++ ids)
+      → facets_by new.points.items (before ++ more) ≡ facets_by old.points.items (before ++ ids) ++ kept_facets facets
+  pub degenerate : new.degenerate.items ≡ old.degenerate.items ++ degenerate_facets facets
+  pub few : length new.points.items ≤ length old.points.items + 3 * length facets
+
+-- a welder has more facets after those so far, or none if an allocation failed
+pub record IsMoreWelded (old : Welder) (facets : List Facet) (new : Welder) {E : Type 0} (result : Result (Unit {0}) E) : Type 0 where
+  pub added : OnOk result (new ≡ with_facets old facets)
+  pub whole : (before : List Facet) → old ≡ welder_of before → OnOk result (new ≡ welder_of (before ++ facets))
+  pub failed : OnErr result (new ≡ welder_of [])

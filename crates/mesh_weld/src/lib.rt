@@ -28,6 +28,7 @@ mod facets;
 mod half_edge;
 mod height_order;
 mod laws;
+mod names;
 mod numbering;
 mod packing;
 mod probing;

@@ -1,50 +1,43 @@
 //! Welding as facets come: each is kept by the ids of its corners, and its edges are numbered at once. So the caller need not
 //! keep a list of facets.
-ghost use Rattle.std.specs.Prelude.{◌≡◌, ◌≤◌, ◌<◌, ◌+◌, ◌++◌, [], ◌∷◌, List, IfOk, IfSome, OnErr, OnOk, length, true};
+ghost use Rattle.std.specs.Prelude.{◌≡◌, ◌≤◌, ◌+◌, ◌*◌, ◌++◌, [], IfOk, IfSome, List, Ok, OnOk, length};
 ghost use Rattle.geometry.specs.Facet.{Facet};
 ghost use Rattle.mesh_weld.specs.EdgeChains.{AreInHalfWords};
 ghost use Rattle.mesh_weld.specs.Grouping.{AreEdgesOf, AreOrdersOf};
 ghost use Rattle.mesh_weld.specs.HalfEdge.{half_edges_from, ArePairNumbers};
-ghost use Rattle.mesh_weld.specs.Solid.{facets_by, is_kept};
-ghost use Rattle.mesh_weld.specs.Welder.{AreNamed, welder_by, welder_of, with_facets};
+ghost use Rattle.mesh_weld.specs.Welder.{AreNamed, AreNamedMore, IsMoreWelded, welder_by, welder_of};
 ghost use Rattle.mesh_weld.specs.Welding.{IsWeldOf};
-ghost use Rattle.geometry.specs.declared.limits.TheConstants.{FACET_LIMIT};
+ghost use Rattle.geometry.specs.declared.limits.TheConstants.{CORNER_LIMIT, FACET_LIMIT};
 
-use crate::by_hash::{
-    BLOCK, CornerTable, Grouping, NONE, NumberedFacets, facet_ids, group_facets, group_facets_by,
-};
-use crate::facets::has_distinct_corners;
+use crate::by_hash::{Grouping, NumberedFacets, group_facets, group_facets_by};
 use crate::half_edge::EdgeNumbering;
+use crate::names::Names;
 use crate::numbering::named_numbering;
 use crate::solid::Solid;
 use crate::weld_fault::WeldFault;
 use geometry::{Facet, Point};
 use std::alloc::{AllocError, Allocator};
 use std::marker::Model;
-use std::thread::Threads;
+use std::thread::{Threads, join_mut};
 
 /// The facets to be welded. Those with three distinct corners are kept by the ids of their corners and the numbers of their
 /// edges. They take 24 bytes a facet, in addition to the points, the chains of edges and the table. The others are degenerate.
 #[derive(Drop)]
 pub struct Welder<A: Allocator> {
-    alloc: A,
-    table: CornerTable<A>,
-    points: Vec<Point, A>,
+    names: Names<A>,
     kept: NumberedFacets<A>,
-    degenerate: Vec<Facet, A>,
 }
 
 impl<A: Allocator> Model for Welder<A> {
     ghost use Rattle.std.specs.Prelude.{◌≤◌, ◌+◌, length};
     ghost use Rattle.geometry.specs.declared.limits.TheConstants.{FACET_LIMIT};
-    ghost use Rattle.mesh_weld.specs.Welder.{AreNamed, Welder};
-    ghost use Rattle.mesh_weld.specs.Solid.{facets_by};
+    ghost use Rattle.mesh_weld.specs.Welder.{AreNamed, Welder, welder_by};
 
     ghost Value = { Welder };
 
-    ghost view = { λ w. record { kept = facets_by w.points.items w.kept; degenerate = w.degenerate.items } };
+    ghost view = { λ w. welder_by w.names.points.items w.kept w.names.degenerate.items };
 
-    ghost invariant = { λ w. AreNamed w.points.items w.kept × (length w.kept + length w.degenerate.items ≤ FACET_LIMIT) };
+    ghost invariant = { λ w. AreNamed w.names.points.items w.kept × (length w.kept + length w.names.degenerate.items ≤ FACET_LIMIT) };
 }
 
 impl<A: Allocator + Copy + Send + Sync> Welder<A> {
@@ -53,11 +46,8 @@ impl<A: Allocator + Copy + Send + Sync> Welder<A> {
         ensures { result ≡ welder_of [] }
     {
         Welder {
-            alloc,
-            table: CornerTable::new(alloc),
-            points: Vec::new(alloc),
+            names: Names::new(alloc),
             kept: NumberedFacets::new(alloc),
-            degenerate: Vec::new(alloc),
         }
     }
 
@@ -67,7 +57,7 @@ impl<A: Allocator + Copy + Send + Sync> Welder<A> {
         ensures whole { (facets : List Facet) → self.now ≡ welder_of facets → result ≡ length facets }
         ensures few { result ≤ FACET_LIMIT }
     {
-        self.kept.len() + self.degenerate.len()
+        self.kept.len() + self.names.degenerate.len()
     }
 
     /// Adds facets after those so far, at most `FACET_LIMIT` with these.
@@ -76,59 +66,47 @@ impl<A: Allocator + Copy + Send + Sync> Welder<A> {
     /// If an allocation fails; the welder then has no facets any more.
     pub fn add(&mut self, facets: &[Facet]) -> Result<(), AllocError>
         requires { length self.old.kept + length self.old.degenerate + length facets.now ≤ FACET_LIMIT }
-        ensures added { OnOk result (self.new ≡ with_facets self.old facets.now) }
-        ensures whole { (before : List Facet) → self.old ≡ welder_of before → OnOk result (self.new ≡ welder_of (before ++ facets.now)) }
-        ensures failed { OnErr result (self.new ≡ welder_of []) }
+        ensures { IsMoreWelded self.old facets.now self.new result }
     {
-        let mut guesses = [[NONE; 3]; BLOCK];
-        for at in 0..facets.len() {
-            if at % BLOCK == 0 {
-                self.table.guess_ids(&facets[at..], &mut guesses);
-            }
-            let added = self.add_facet(&facets[at], guesses[at % BLOCK]);
-            if added.is_err() {
-                self.clear();
-                return added;
-            }
-        }
-        let numbered = self.kept.number(self.points.len());
-        if numbered.is_err() {
-            self.clear();
-        }
-        numbered
-    }
-
-    /// Adds a facet. If an allocation fails, some facets may be lost.
-    fn add_facet(&mut self, facet: &Facet, guesses: [u32; 3]) -> Result<(), AllocError>
-        requires { length self.old.kept + length self.old.degenerate < FACET_LIMIT }
-        ensures { OnOk result (self.new ≡ with_facets self.old (facet.now ∷ [])) }
-    {
-        if !has_distinct_corners(facet) {
-            self.degenerate.push(*facet)?;
-            return Ok(());
-        }
-        let named = name_facet(
-            self.alloc,
-            &mut self.table,
-            &mut self.points,
-            &mut self.kept,
-            facet,
-            guesses,
-        );
-        if named.is_err() {
-            self.points.clear();
+        let added = name_and_number(&mut self.names, &mut self.kept, facets);
+        if added.is_err() {
+            self.names.clear();
             self.kept.clear();
         }
-        named
+        added
     }
 
-    /// Removes all facets.
-    fn clear(&mut self)
-        ensures { self.new ≡ welder_of [] }
+    /// [`Welder::add`] by two threads, while the calling one does `own`: one numbers the edges of the facets so far, and the other
+    /// names the corners of these. Each then does `then`. Returns what they did, and what `own` returned.
+    ///
+    /// # Errors
+    /// Those of [`Welder::add`], as the first result.
+    pub fn add_beside<R: Threads + Sync, F: Fn() -> S + Sync, G: FnMut() -> T, S: Send, T>(
+        &mut self,
+        rt: &R,
+        facets: &[Facet],
+        then: &F,
+        own: &mut G,
+    ) -> (Result<(), AllocError>, (S, S), T)
+        requires few { length self.old.kept + length self.old.degenerate + length facets.now ≤ FACET_LIMIT }
+        requires calls { F.pre then.now × G.pre own.old }
+        ensures welded { IsMoreWelded self.old facets.now self.new result.0 }
+        ensures then { F.post then.now result.1.0 × F.post then.now result.1.1 }
+        ensures own { G.step own.old result.2 own.new }
     {
-        self.points.clear();
-        self.kept.clear();
-        self.degenerate.clear();
+        let (added, others, done) = keep_beside(
+            rt,
+            &mut self.names,
+            &mut self.kept,
+            facets,
+            then,
+            own,
+        );
+        if added.is_err() {
+            self.names.clear();
+            self.kept.clear();
+        }
+        (added, others, done)
     }
 
     /// The solid of all facets that were added. Unless an allocation fails, it succeeds exactly if their half-edges balance.
@@ -140,7 +118,7 @@ impl<A: Allocator + Copy + Send + Sync> Welder<A> {
     pub fn finish(self) -> Result<Solid<A>, WeldFault>
         ensures { IsWeldOf self result }
     {
-        let (named, numbering) = self.without_table();
+        let (named, numbering) = self.numbered()?.without_table();
         let found = group_facets(
             named.alloc,
             named.points.as_slice(),
@@ -154,10 +132,19 @@ impl<A: Allocator + Copy + Send + Sync> Welder<A> {
     pub fn finish_by<R: Threads + Sync>(self, rt: &R) -> Result<Solid<A>, WeldFault>
         ensures { IsWeldOf self result }
     {
-        let (named, numbering) = self.without_table();
+        let (named, numbering) = self.numbered()?.without_table();
         let (points, ids) = (named.points.as_slice(), named.ids.as_slice());
         let found = group_facets_by(rt, named.alloc, points, ids, numbering);
         named.into_solid(found)
+    }
+
+    /// The welder. Its edges all have numbers, if chains serve.
+    fn numbered(self) -> Result<Welder<A>, AllocError>
+        ensures { IfOk result (λ all. all ≡ self) }
+    {
+        let Welder { names, mut kept } = self;
+        kept.number(names.points.len())?;
+        Ok(Welder { names, kept })
     }
 
     /// The facets, and the numbers of their edges if there are any. The table and the chains are freed.
@@ -168,13 +155,13 @@ impl<A: Allocator + Copy + Send + Sync> Welder<A> {
         ensures numbering { IfSome result.1 (λ own. ArePairNumbers (half_edges_from 0 result.0.ids.items) own.numbers.items own.count) }
         ensures small { IfSome result.1 (λ own. AreInHalfWords (half_edges_from 0 result.0.ids.items)) }
     {
-        let Welder {
+        let Welder { names, kept } = self;
+        let Names {
             alloc,
             table: _,
             points,
-            kept,
             degenerate,
-        } = self;
+        } = names;
         let (ids, numbering) = kept.into_parts();
         let named = NamedFacets {
             alloc,
@@ -219,23 +206,140 @@ impl<A: Allocator + Copy> NamedFacets<A> {
     }
 }
 
-/// Appends the ids of a facet's corners to those of the others.
-fn name_facet<A: Allocator + Copy>(
-    alloc: A,
-    table: &mut CornerTable<A>,
-    points: &mut Vec<Point, A>,
+/// Names facets after those that are kept, and numbers their edges.
+fn name_and_number<A: Allocator + Copy>(
+    names: &mut Names<A>,
     kept: &mut NumberedFacets<A>,
-    facet: &Facet,
-    guesses: [u32; 3],
+    facets: &[Facet],
 ) -> Result<(), AllocError>
-    requires few { length kept.old < FACET_LIMIT }
-    requires named { AreNamed points.old.items kept.old }
-    requires distinct { is_kept facet.now ≡ true }
-    ensures count { OnOk result (length kept.new ≡ length kept.old + 1) }
-    ensures named { OnOk result (AreNamed points.new.items kept.new) }
-    ensures added { OnOk result (facets_by points.new.items kept.new ≡ facets_by points.old.items kept.old ++ facet.now ∷ []) }
+    requires { length names.old.points.items + 3 * length facets.now ≤ CORNER_LIMIT }
+    ensures { OnOk result (AreNamedMore names.old kept.old facets.now names.new kept.new) }
 {
-    let own = facet_ids(alloc, table, points, facet, guesses)?;
-    kept.push(own)?;
-    Ok(())
+    names.name(facets, kept)?;
+    kept.number(names.points.len())
+}
+
+/// Names facets after those that are kept, and numbers the edges of these meanwhile, while the calling thread does its own work.
+fn keep_beside<
+    R: Threads + Sync,
+    A: Allocator + Copy + Send + Sync,
+    F: Fn() -> S + Sync,
+    G: FnMut() -> T,
+    S: Send,
+    T,
+>(
+    rt: &R,
+    names: &mut Names<A>,
+    kept: &mut NumberedFacets<A>,
+    facets: &[Facet],
+    then: &F,
+    own: &mut G,
+) -> (Result<(), AllocError>, (S, S), T)
+    requires room { length names.old.points.items + 3 * length facets.now ≤ CORNER_LIMIT }
+    requires calls { F.pre then.now × G.pre own.old }
+    ensures named { OnOk result.0 (AreNamedMore names.old kept.old facets.now names.new kept.new) }
+    ensures then { F.post then.now result.1.0 × F.post then.now result.1.1 }
+    ensures own { G.step own.old result.2 own.new }
+{
+    let mut fresh = NumberedFacets::new(names.alloc);
+    let ((numbered, first), ((named, second), done)) = number_and_name(
+        rt, names, kept, &mut fresh, facets, then, own,
+    );
+    let added = append_named(kept, fresh, numbered, named);
+    (added, (first, second), done)
+}
+
+/// Appends facets that are named to those that are kept and have their numbers.
+fn append_named<A: Allocator + Copy>(
+    kept: &mut NumberedFacets<A>,
+    fresh: NumberedFacets<A>,
+    numbered: Result<(), AllocError>,
+    named: Result<(), AllocError>,
+) -> Result<(), AllocError>
+    ensures appended { OnOk result (kept.new ≡ kept.old ++ fresh) }
+    ensures named { OnOk result (named ≡ Ok tt) }
+{
+    numbered?;
+    named?;
+    kept.append(&fresh)
+}
+
+/// Numbers the edges of the kept facets, names further ones, and does the caller's own work, by three threads at the same time.
+fn number_and_name<
+    R: Threads + Sync,
+    A: Allocator + Copy + Send + Sync,
+    F: Fn() -> S + Sync,
+    G: FnMut() -> T,
+    S: Send,
+    T,
+>(
+    rt: &R,
+    names: &mut Names<A>,
+    kept: &mut NumberedFacets<A>,
+    fresh: &mut NumberedFacets<A>,
+    facets: &[Facet],
+    then: &F,
+    own: &mut G,
+) -> (
+    (Result<(), AllocError>, S),
+    ((Result<(), AllocError>, S), T),
+)
+    requires room { length names.old.points.items + 3 * length facets.now ≤ CORNER_LIMIT }
+    requires calls { F.pre then.now × G.pre own.old }
+    ensures kept { kept.new ≡ kept.old }
+    ensures named { OnOk result.1.0.0 (AreNamedMore names.old fresh.old facets.now names.new fresh.new) }
+    ensures then { F.post then.now result.0.1 × F.post then.now result.1.0.1 }
+    ensures own { G.step own.old result.1.1 own.new }
+{
+    let count = names.points.len();
+    let mut number = move || -> (Result<(), AllocError>, S)
+        requires { F.pre then.now }
+        ensures kept { kept.exit.now ≡ kept.entry.now }
+        ensures then { F.post then.entry.now result.1 }
+    {
+        let numbered = kept.number(count);
+        (numbered, then())
+    };
+    let mut rest = || -> ((Result<(), AllocError>, S), T)
+        requires room { length names.now.points.items + 3 * length facets.now ≤ CORNER_LIMIT }
+        requires calls { F.pre then.now × G.pre own.now }
+        ensures named { OnOk result.0.0 (AreNamedMore names.entry.now fresh.entry.now facets.entry.now names.exit.now fresh.exit.now) }
+        ensures then { F.post then.entry.now result.0.1 }
+        ensures own { G.step own.entry.now result.1 own.exit.now }
+    { name_beside(rt, names, fresh, facets, then, own) };
+    join_mut(rt, &mut number, &mut rest)
+}
+
+/// Names facets, and does the caller's own work, by two threads at the same time.
+fn name_beside<
+    R: Threads + Sync,
+    A: Allocator + Copy + Send + Sync,
+    F: Fn() -> S + Sync,
+    G: FnMut() -> T,
+    S: Send,
+    T,
+>(
+    rt: &R,
+    names: &mut Names<A>,
+    fresh: &mut NumberedFacets<A>,
+    facets: &[Facet],
+    then: &F,
+    own: &mut G,
+) -> ((Result<(), AllocError>, S), T)
+    requires room { length names.old.points.items + 3 * length facets.now ≤ CORNER_LIMIT }
+    requires calls { F.pre then.now × G.pre own.old }
+    ensures named { OnOk result.0.0 (AreNamedMore names.old fresh.old facets.now names.new fresh.new) }
+    ensures then { F.post then.now result.0.1 }
+    ensures own { G.step own.old result.1 own.new }
+{
+    let mut name = || -> (Result<(), AllocError>, S)
+        requires room { length names.now.points.items + 3 * length facets.now ≤ CORNER_LIMIT }
+        requires calls { F.pre then.now }
+        ensures named { OnOk result.0 (AreNamedMore names.entry.now fresh.entry.now facets.entry.now names.exit.now fresh.exit.now) }
+        ensures then { F.post then.entry.now result.1 }
+    {
+        let named = names.name(facets, fresh);
+        (named, then())
+    };
+    join_mut(rt, &mut name, own)
 }

@@ -94,7 +94,7 @@ pub fn segments<A: Allocator + Copy + Send + Sync>(
 /// The segments of the kept facets with these numbers at the height `z2` in half-micrometres, at most `geometry::CENTRE_LIMIT`
 /// from 0, in the order of the numbers. A facet that the plane does not cut has none. `Err` only if an allocation failed.
 ///
-/// It looks up all facets first. They lie far apart in memory, so the waits for them overlap.
+/// It looks up all facets before it cuts the first one, so that the waits for memory overlap.
 pub fn segments_in<A: Allocator + Copy>(
     alloc: A,
     s: &Solid<A>,

@@ -35,17 +35,33 @@ pub(crate) fn fed<A: Allocator + Copy + Send + Sync>(
     welder.finish()
 }
 
-/// The result of a welder that gets all facets at once, and is finished by several threads.
+/// The number of facets in a list that several threads add.
+const LIST_LEN: usize = 3000;
+
+/// The result of a welder that gets the facets in lists, each by several threads, and is finished by several. `Memory` too if
+/// other work is not done beside.
 pub(crate) fn fed_by<R: Threads + Sync, A: Allocator + Copy + Send + Sync>(
     rt: &R,
     alloc: A,
     facets: &[Facet],
 ) -> Result<Solid<A>, WeldFault> {
     let mut welder = Welder::new(alloc);
-    if welder.count() > ROOM || facets.len() > ROOM {
+    let mut rest = facets;
+    'lists: while rest.len() > 0 {
+        let (part, behind) = rest.split_at(LIST_LEN.min(rest.len()));
+        rest = behind;
+        if welder.count() > ROOM || part.len() > ROOM {
+            return Err(WeldFault::Memory);
+        }
+        let (added, others, own) = welder.add_beside(rt, part, &|| 1u8, &mut || 2u8);
+        added?;
+        if others != (1, 1) || own != 2 {
+            return Err(WeldFault::Memory);
+        }
+    }
+    if welder.count() != facets.len() {
         return Err(WeldFault::Memory);
     }
-    welder.add(facets)?;
     welder.finish_by(rt)
 }
 

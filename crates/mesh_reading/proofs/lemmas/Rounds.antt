@@ -4,9 +4,12 @@ use Rattle.std.specs.Prelude.{Err, IfErr, IsErrAnd, Ok, OnOk, Result}
 use Rattle.std.specs.Result.{result_and}
 use Rattle.std.specs.Io.KnownBytes.{Consumes, IsAtEnd}
 use Rattle.std.proofs.Math.Seq.{take-append_seam, take-take}
-use Rattle.std.proofs.lemmas.List.{length-take-le}
+use Rattle.std.proofs.lemmas.List.{length-append, length-take-le}
 use Rattle.devices.specs.Devices.{Fails}
-use Rattle.mesh_reading.specs.Loading.{IsFilled}
+use Rattle.geometry.specs.Facet.{Facet}
+use Rattle.geometry.specs.declared.limits.TheConstants.{FACET_LIMIT}
+use Rattle.mesh_weld.specs.Welder.{Welder, welder_of}
+use Rattle.mesh_reading.specs.Loading.{HasWelded, IsFilled}
 use Rattle.mesh_reading.specs.Round.{Round}
 use Rattle.mesh_reading.specs.declared.read_fault.ReadFault.{ReadFault}
 use Rattle.mesh_reading.specs.declared.read_fault.ReadFault.TheVariants as fault
@@ -100,3 +103,16 @@ module _ {S : Type 0} (remaining : S → Option (List ℕ)) (failure_count : S �
     sound = λ _. sound;
     only = inr short;
   }
+
+-- ---- facets that a welder is given, which are all of them if there is room
+pub welded_given : (facets given : List Facet) (old new : Welder)
+    → ((taken : List Facet) → old ≡ welder_of taken → length (taken ++ facets) ≤ FACET_LIMIT → given ≡ facets)
+    → ((taken : List Facet) → old ≡ welder_of taken → new ≡ welder_of (taken ++ given)) → HasWelded facets old new
+welded_given facets given old new all welded =
+    λ taken own few.
+    let is : old ≡ welder_of taken = own (omega (arith, few, length-append taken facets)) in
+    welded taken is ∙ ap (λ (l : List Facet). welder_of (taken ++ l)) (all taken is few)
+
+pub welded_ok : {E F : Type 0} (r : Result (Unit {0}) E) (s : Result (Unit {0}) F) (H : Type 0) → OnOk r (s ≡ Ok tt) → (s ≡ Ok tt → H) → OnOk r H
+welded_ok (Ok x) s H is h = h is
+welded_ok (Err x) s H is h = tt

@@ -14,3 +14,9 @@ pub on_true : {E : Type 0} → (same : Bool → Bool → Bool) (eq : E → E →
 on_true same eq (Ok true) differ e P p = p
 on_true same eq (Ok false) differ e P p = absurd (false≢true (e ∙ ap not differ))
 on_true same eq (Err x) differ e P p = absurd (false≢true e)
+
+-- what holds if both of two results are no errors
+pub both_ok : {T E F : Type 0} {P Q R : Type 0} (r : Result T E) (s : Result (Unit {0}) F) → OnOk r (s ≡ Ok tt) → (P → Q → R) → OnOk s P → OnOk r Q → OnOk r R
+both_ok (Ok x) (Ok y) is f p q = f p q
+both_ok (Ok x) (Err y) is f p q = absurd (false≢true (sym (ap is_err is)))
+both_ok (Err x) s is f p q = tt

@@ -118,6 +118,13 @@ impl<A: Allocator + Copy> NumberedFacets<A> {
         Ok(())
     }
 
+    /// Appends other facets, which get their numbers here.
+    pub(crate) fn append(&mut self, more: &NumberedFacets<A>) -> Result<(), AllocError>
+        ensures { OnOk result (self.new ≡ self.old ++ more.now) }
+    {
+        self.ids.extend_from_slice(more.ids.as_slice())
+    }
+
     /// Numbers the half-edges of facets that have no numbers yet, between `count` vertices. If chains do not serve, all numbers
     /// are dropped, and no more are made.
     pub(crate) fn number(&mut self, count: usize) -> Result<(), AllocError>

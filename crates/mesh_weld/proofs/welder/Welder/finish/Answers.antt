@@ -1,4 +1,4 @@
-use Rattle.std.proofs.Common.{arith, subst}
+use Rattle.std.proofs.Common.{arith, subst, ◌∙◌}
 use Rattle.mesh_weld.specs.Welder.{Welder}
 use Rattle.mesh_weld.specs.Welding.{IsWeldOf}
 use Rattle.mesh_weld.proofs.welder.Welder.finish.Goals as goal
@@ -28,4 +28,4 @@ pub into_solid-requires-clause-orders : goal.into_solid-requires-clause-orders
 into_solid-requires-clause-orders g c = rw (c.as_slice.ensures.value, c.as_slice-2.ensures.value) at c.group_facets-found.ensures.orders
 
 pub returns : goal.returns
-returns g c = subst (λ (w : Welder). IsWeldOf w c.into_solid.result) c.without_table-named.ensures.value c.into_solid.ensures
+returns g c = subst (λ (w : Welder). IsWeldOf w c.into_solid.result) (c.without_table-named.ensures.value ∙ c.in_ok-numbered.ensures) c.into_solid.ensures

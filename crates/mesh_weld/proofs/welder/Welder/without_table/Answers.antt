@@ -4,7 +4,7 @@ use Rattle.mesh_weld.proofs.welder.Welder.without_table.Goals as goal
 
 pub returns-clause-value : goal.returns-clause-value
 returns-clause-value g c =
-    ap (λ (ids : List (List ℕ)). welder_by c.self.inside.points.items ids c.self.inside.degenerate.items) c.into_parts-ids.ensures.ids ∙ c.self.view_is
+    ap (λ (ids : List (List ℕ)). welder_by c.self.inside.names.points.items ids c.self.inside.names.degenerate.items) c.into_parts-ids.ensures.ids ∙ c.self.view_is
 
 pub returns-clause-named : goal.returns-clause-named
 returns-clause-named g c = rw c.into_parts-ids.ensures.ids c.self.invariant.0

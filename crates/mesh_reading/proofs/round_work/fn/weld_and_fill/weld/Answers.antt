@@ -1,4 +1,0 @@
-use Rattle.mesh_reading.proofs.round_work.fn.weld_and_fill.weld.Goals as goal
-
-pub returns : goal.returns
-returns g c = c.weld_first.ensures
