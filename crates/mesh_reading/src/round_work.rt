@@ -55,7 +55,7 @@ pub(crate) fn read_and_weld<R: Threads + Sync, A: Allocator + Copy + Send + Sync
 /// Adds facets to a welder, fills the next round, and finds runs in the parts of a chunk, by up to `workers` workers at the same
 /// time. If reading fails and memory is short, the failed read is the fault.
 ///
-/// A new thread may share the processor of the thread that made it, until that one waits. Others draw more of the parts meanwhile.
+/// A new thread may share the processor of the one that made it, until that one waits. Others draw more of the parts meanwhile.
 fn weld_and_find<'t, R: Threads + Sync, A: Allocator + Copy + Send + Sync, I: Source>(
     rt: &R,
     workers: u32,

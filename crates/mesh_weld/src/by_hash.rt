@@ -7,11 +7,11 @@
 //! No contract speaks of a hash or a group: that would take long proofs, and is not needed. A check shows that the points and
 //! the keys of the facets ascend strictly; it fails if a point has two ids. The sorts do the work again if a check fails, a
 //! chain of the table or of edges grows too long, or the half-edges do not balance.
-ghost use Rattle.std.specs.Prelude.{◌≤◌, IfOk, IfSome, length};
+ghost use Rattle.std.specs.Prelude.{◌≡◌, ◌≤◌, IfOk, IfSome, length};
 ghost use Rattle.mesh_weld.specs.EdgeChains.{AreInHalfWords};
 ghost use Rattle.mesh_weld.specs.Grouping.{AreEdgesOf, AreOrdersOf};
 ghost use Rattle.mesh_weld.specs.HalfEdge.{half_edges_from, ArePairNumbers};
-ghost use Rattle.mesh_weld.specs.Welder.{AreBelow};
+ghost use Rattle.mesh_weld.specs.Solid.{facets_by, height_ranges};
 ghost use Rattle.geometry.specs.declared.limits.TheConstants.{FACET_LIMIT};
 
 mod corner_table;
@@ -29,7 +29,7 @@ pub(crate) use crate::by_hash::numbered_facets::NumberedFacets;
 pub(crate) use crate::by_hash::point_order::PointOrder;
 use crate::by_hash::point_order::rank_points;
 use crate::half_edge::EdgeNumbering;
-use crate::height_order::{HeightOrder, order_by_height};
+use crate::height_order::{HeightOrder, HeightRange, order_by_height};
 use geometry::Point;
 use std::alloc::{AllocError, Allocator};
 use std::thread::{Threads, join};
@@ -49,16 +49,17 @@ pub(crate) struct Orders<A: Allocator> {
 }
 
 /// Puts the points and the facets in order, if the half-edges balance by the numbers of their edges (`numbering`). The facets
-/// are given by ids among the points. `None` if there is no `numbering`, the half-edges do not balance, or the points cannot be
+/// are given by ids among the points, and by their height ranges. `None` if there is no `numbering`, the half-edges do not balance, or the points cannot be
 /// put in order. Then sorts must serve.
 pub(crate) fn group_facets<A: Allocator + Copy>(
     alloc: A,
     points: &[Point],
     ids: &[[u32; 3]],
+    ranges: Vec<HeightRange, A>,
     numbering: Option<EdgeNumbering<A>>,
 ) -> Result<Option<Grouping<A>>, AllocError>
-    requires below { AreBelow points.now ids.now }
     requires few { length ids.now ≤ FACET_LIMIT }
+    requires ranges { ranges.items ≡ height_ranges (facets_by points.now ids.now) }
     requires numbering { IfSome numbering (λ own. ArePairNumbers (half_edges_from 0 ids.now) own.numbers.items own.count) }
     requires small { IfSome numbering (λ own. AreInHalfWords (half_edges_from 0 ids.now)) }
     ensures edges { IfOk result (λ found. IfSome found (λ own. AreEdgesOf ids.now own.edges.numbers.items own.edges.count)) }
@@ -70,7 +71,7 @@ pub(crate) fn group_facets<A: Allocator + Copy>(
     let Some(edges) = balanced_edges(alloc, ids, numbering)? else {
         return Ok(None);
     };
-    let Some(orders) = orders_of(alloc, points, ids)? else {
+    let Some(orders) = orders_of(alloc, points, ids, ranges)? else {
         return Ok(None);
     };
     Ok(Some(Grouping { edges, orders }))
@@ -82,10 +83,11 @@ pub(crate) fn group_facets_by<R: Threads + Sync, A: Allocator + Copy + Send + Sy
     alloc: A,
     points: &[Point],
     ids: &[[u32; 3]],
+    ranges: Vec<HeightRange, A>,
     numbering: Option<EdgeNumbering<A>>,
 ) -> Result<Option<Grouping<A>>, AllocError>
-    requires below { AreBelow points.now ids.now }
     requires few { length ids.now ≤ FACET_LIMIT }
+    requires ranges { ranges.items ≡ height_ranges (facets_by points.now ids.now) }
     requires numbering { IfSome numbering (λ own. ArePairNumbers (half_edges_from 0 ids.now) own.numbers.items own.count) }
     requires small { IfSome numbering (λ own. AreInHalfWords (half_edges_from 0 ids.now)) }
     ensures edges { IfOk result (λ found. IfSome found (λ own. AreEdgesOf ids.now own.edges.numbers.items own.edges.count)) }
@@ -96,7 +98,7 @@ pub(crate) fn group_facets_by<R: Threads + Sync, A: Allocator + Copy + Send + Sy
     };
     let (heights, (ranked, edges)) = join(
         rt,
-        || order_by_height(alloc, points, ids),
+        || order_by_height(alloc, ranges),
         ||
             requires few { length ids.now ≤ FACET_LIMIT }
             requires numbering { ArePairNumbers (half_edges_from 0 ids.now) numbering.numbers.items numbering.count }
@@ -125,12 +127,13 @@ fn orders_of<A: Allocator + Copy>(
     alloc: A,
     points: &[Point],
     ids: &[[u32; 3]],
+    ranges: Vec<HeightRange, A>,
 ) -> Result<Option<Orders<A>>, AllocError>
-    requires below { AreBelow points.now ids.now }
     requires few { length ids.now ≤ FACET_LIMIT }
+    requires ranges { ranges.items ≡ height_ranges (facets_by points.now ids.now) }
     ensures { IfOk result (λ found. IfSome found (λ own. AreOrdersOf points.now ids.now own)) }
 {
-    let heights = order_by_height(alloc, points, ids)?;
+    let heights = order_by_height(alloc, ranges)?;
     let Some(points) = rank_points(alloc, points)? else {
         return Ok(None);
     };

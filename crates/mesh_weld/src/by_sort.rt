@@ -15,7 +15,7 @@ use crate::by_sort::corners::{CornerNumbers, in_threes, number_corners};
 use crate::by_sort::edges::{least_uneven, number_sorted, sorted_half_edges};
 use crate::facets::open_edge;
 use crate::half_edge::EdgeNumbering;
-use crate::height_order::order_by_height;
+use crate::height_order::{list_ranges, order_by_height};
 use crate::numbering::Numbering;
 use crate::weld_fault::WeldFault;
 use geometry::{Facet, Point};
@@ -44,7 +44,7 @@ pub(crate) fn sorted_numbering<A: Allocator + Copy>(
         points.as_slice(),
         numbers.as_slice(),
     )?;
-    let heights = order_by_height(alloc, points.as_slice(), numbers.as_slice())?;
+    let heights = order_by_height(alloc, list_ranges(alloc, kept)?)?;
     Ok(Numbering {
         points,
         numbers,

@@ -1,20 +1,19 @@
 //! Facets in the order in which a sweep from below meets them, the height range of each, and the top of each block of the
 //! order. The sweep asks for the ranges again and again. By the tops it passes blocks in which all facets have ended.
-ghost use Rattle.std.specs.Prelude.{◌≡◌, ◌<◌, ◌≤◌, ◌%◌, ◌/◌, ◌+ℤ◌, pos, IfOk, drop, length, map, take};
+ghost use Rattle.std.specs.Prelude.{◌≡◌, ◌<◌, ◌≤◌, ◌%◌, ◌/◌, ◌+ℤ◌, ◌++◌, ◌∷◌, [], pos, IfOk, OnOk, drop, length, map, take};
 ghost use Rattle.std.specs.List.{All, range_with_len};
 ghost use Rattle.std.specs.List.Sorted.{IsPermutation, IsNonDecreasing};
-ghost use Rattle.mesh_weld.specs.HeightOrder.{AreHeightKeys, AreNumbersSorted, high_in};
+ghost use Rattle.mesh_weld.specs.HeightOrder.{AreKeysBy, AreNumbersSorted, IsOrderOf, high_in, low_in, range_in};
 ghost use Rattle.geometry.specs.Facet.{greatest_z, least_z};
-ghost use Rattle.mesh_weld.specs.Solid.{AreBlockTops, IsByHeight, IsTop, facets_by, height_range, height_ranges, top_of};
-ghost use Rattle.mesh_weld.specs.Welder.{AreBelow};
+ghost use Rattle.mesh_weld.specs.Solid.{AreBlockTops, IsTop, height_range, height_ranges, kept_facets};
 ghost use Rattle.mesh_weld.specs.declared.height_order.TheConstants.{BLOCK_LEN, HEIGHT_OFFSET};
 ghost use Rattle.mesh_weld.specs.declared.packing.TheConstants.{HALF_WORD};
 ghost use Rattle.geometry.specs.declared.limits.TheConstants.{FACET_LIMIT};
 
 use crate::by_hash::counted_order;
-use crate::facets::facet_by;
+use crate::facets::has_distinct_corners;
 use crate::packing::{HALF_WORD, packed};
-use geometry::{Facet, Point};
+use geometry::Facet;
 use std::alloc::{AllocError, Allocator};
 
 /// The heights of a facet's lowest and highest corner, in micrometres.
@@ -33,19 +32,15 @@ pub(crate) struct HeightOrder<A: Allocator> {
     pub(crate) tops: Vec<i32, A>,
 }
 
-/// The order by height of the facets whose corners have the numbers among the points.
+/// The order by height of the facets with these height ranges.
 pub(crate) fn order_by_height<A: Allocator + Copy>(
     alloc: A,
-    points: &[Point],
-    numbers: &[[u32; 3]],
+    ranges: Vec<HeightRange, A>,
 ) -> Result<HeightOrder<A>, AllocError>
-    requires below { AreBelow points.now numbers.now }
-    requires few { length numbers.now ≤ FACET_LIMIT }
-    ensures order { IfOk result (λ heights. IsByHeight (facets_by points.now numbers.now) heights.order.items) }
-    ensures ranges { IfOk result (λ heights. heights.ranges.items ≡ height_ranges (facets_by points.now numbers.now)) }
-    ensures tops { IfOk result (λ heights. AreBlockTops (top_of (facets_by points.now numbers.now)) heights.order.items heights.tops.items) }
+    requires { length ranges.items ≤ FACET_LIMIT }
+    ensures { IfOk result (IsOrderOf ranges.items) }
 {
-    let Heights { keys, ranges } = list_heights(alloc, points, numbers)?;
+    let keys = list_keys(alloc, ranges.as_slice())?;
     let order = order_of(alloc, keys)?;
     let tops = block_tops(alloc, ranges.as_slice(), order.as_slice())?;
     Ok(HeightOrder {
@@ -55,49 +50,75 @@ pub(crate) fn order_by_height<A: Allocator + Copy>(
     })
 }
 
+/// Appends the height ranges of facets, but for the degenerate ones, to those of facets before them.
+pub(crate) fn add_ranges<A: Allocator>(
+    ranges: &mut Vec<HeightRange, A>,
+    facets: &[Facet],
+) -> Result<(), AllocError>
+    ensures { OnOk result (ranges.new.items ≡ ranges.old.items ++ height_ranges (kept_facets facets.now)) }
+{
+    for at in 0..facets.len() {
+        add_range(ranges, &facets[at])?;
+    }
+    Ok(())
+}
+
+/// [`add_ranges`] for a facet.
+fn add_range<A: Allocator>(
+    ranges: &mut Vec<HeightRange, A>,
+    facet: &Facet,
+) -> Result<(), AllocError>
+    ensures { OnOk result (ranges.new.items ≡ ranges.old.items ++ height_ranges (kept_facets (facet.now ∷ []))) }
+{
+    if has_distinct_corners(facet) {
+        ranges.push(height_range(facet))?;
+    }
+    Ok(())
+}
+
+/// The height ranges of facets.
+pub(crate) fn list_ranges<A: Allocator>(
+    alloc: A,
+    facets: &[Facet],
+) -> Result<Vec<HeightRange, A>, AllocError>
+    ensures { IfOk result (λ ranges. ranges.items ≡ height_ranges facets.now) }
+{
+    let mut ranges = Vec::with_capacity(alloc, facets.len())?;
+    for facet in facets {
+        ranges.push(height_range(facet))?;
+    }
+    Ok(ranges)
+}
+
 /// A facet's least height, made no less than 0, in the upper half of a word, and its number in the lower half.
 pub(crate) type HeightKey = u64;
 
 /// Added to a height so that it is no less than 0.
 const HEIGHT_OFFSET: i64 = 1 << 31;
 
-/// The keys of facets and their height ranges, both in the facets' order.
-#[derive(Drop)]
-struct Heights<A: Allocator> {
-    keys: Vec<HeightKey, A>,
-    ranges: Vec<HeightRange, A>,
-}
-
-/// The keys of the facets whose corners have the numbers among the points, and their height ranges. It looks at each facet
-/// once.
-fn list_heights<A: Allocator + Copy>(
+/// The keys of the facets with these height ranges.
+fn list_keys<A: Allocator>(
     alloc: A,
-    points: &[Point],
-    numbers: &[[u32; 3]],
-) -> Result<Heights<A>, AllocError>
-    requires below { AreBelow points.now numbers.now }
-    requires few { length numbers.now ≤ FACET_LIMIT }
-    ensures numbers { IfOk result (λ heights. map (λ key. key % HALF_WORD) heights.keys.items ≡ range_with_len 0 (length numbers.now)) }
-    ensures heights { IfOk result (λ heights. AreHeightKeys (facets_by points.now numbers.now) heights.keys.items) }
-    ensures ranges { IfOk result (λ heights. heights.ranges.items ≡ height_ranges (facets_by points.now numbers.now)) }
+    ranges: &[HeightRange],
+) -> Result<Vec<HeightKey, A>, AllocError>
+    requires { length ranges.now ≤ FACET_LIMIT }
+    ensures numbers { IfOk result (λ keys. map (λ key. key % HALF_WORD) keys.items ≡ range_with_len 0 (length ranges.now)) }
+    ensures heights { IfOk result (λ keys. AreKeysBy (low_in ranges.now) keys.items) }
 {
-    let mut keys = Vec::with_capacity(alloc, numbers.len())?;
-    let mut ranges = Vec::with_capacity(alloc, numbers.len())?;
-    for own in numbers {
-        let facet = facet_by(points, own);
-        let number = keys.len() as u32;
-        keys.push(height_key(&facet, number))?;
-        ranges.push(height_range(&facet))?;
+    let mut keys = Vec::with_capacity(alloc, ranges.len())?;
+    for at in 0..ranges.len() {
+        let number = at as u32;
+        keys.push(height_key(range_at(ranges, number).low, number))?;
     }
-    Ok(Heights { keys, ranges })
+    Ok(keys)
 }
 
 /// A key that ascends with a facet's least height, and then with its number.
-fn height_key(facet: &Facet, number: u32) -> HeightKey
+fn height_key(low: i32, number: u32) -> HeightKey
     ensures number { result % HALF_WORD ≡ number }
-    ensures height { pos (result / HALF_WORD) ≡ least_z facet.now +ℤ HEIGHT_OFFSET }
+    ensures height { pos (result / HALF_WORD) ≡ low +ℤ HEIGHT_OFFSET }
 {
-    let above = (i64::from(lowest(facet)) + HEIGHT_OFFSET) as u32;
+    let above = (i64::from(low) + HEIGHT_OFFSET) as u32;
     packed(above, number)
 }
 
@@ -175,7 +196,7 @@ fn block_top(ranges: &[HeightRange], block: &[u32]) -> i32
 /// The height range of the facet with this number.
 fn range_at(ranges: &[HeightRange], number: u32) -> HeightRange
     requires { number < length ranges.now }
-    ensures { result.high ≡ high_in ranges.now number }
+    ensures { result ≡ range_in ranges.now number }
 {
     ranges[number as usize]
 }

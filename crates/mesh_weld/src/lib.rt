@@ -22,6 +22,7 @@
 //! groups put the points in order (`by_hash`). Otherwise sorts do both (`by_sort`).
 #![tactic(auto)]
 
+mod adding;
 mod by_hash;
 mod by_sort;
 mod facets;

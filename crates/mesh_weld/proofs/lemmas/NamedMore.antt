@@ -3,14 +3,15 @@ use Rattle.std.proofs.Common.{◌≡◌, ℕ, ◌≤◌, ◌+◌, ◌∷◌, ◌
 use Rattle.std.specs.Prelude.{Err, Ok, OnErr, OnOk, Result}
 use Rattle.std.specs.Result.{is_err}
 use Rattle.std.proofs.lemmas.Bool.{false≢true}
-use Rattle.std.proofs.lemmas.List.{append_assoc, append-nil, length-append, length-map}
+use Rattle.std.proofs.lemmas.List.{append_assoc, append-nil, length-append, length-map, map-append}
 use Rattle.std.proofs.lemmas.List.Elements.{filter-append}
 use Rattle.std.proofs.lemmas.Result.{IfOk-from_err, on_ok_weaker}
 use Rattle.geometry.specs.Point.{Point}
 use Rattle.geometry.specs.Facet.{Facet}
 use Rattle.geometry.specs.declared.limits.TheConstants.{FACET_LIMIT}
+use Rattle.mesh_weld.specs.declared.height_order.HeightRange.{HeightRange}
 use Rattle.mesh_weld.specs.declared.names.Names.{Names}
-use Rattle.mesh_weld.specs.Solid.{facet_by, facets_by, is_kept, kept_facets}
+use Rattle.mesh_weld.specs.Solid.{facet_by, facets_by, height_range, height_ranges, is_kept, kept_facets}
 use Rattle.mesh_weld.specs.Welder.{AreNamed, AreNamedMore, IsMoreWelded, IsNamedFacet, Welder, degenerate_facets, welder_by, welder_of, with_facets}
 use Rattle.mesh_weld.proofs.lemmas.Naming.{facets_more, named_more, welder_length}
 
@@ -97,10 +98,11 @@ pub with_named : {A : Type 0} (old new : Names A) (ids more : List (List ℕ)) (
 with_named old new ids more facets own m = λ n. record { kept = m.added [] own n; degenerate = m.degenerate n }
 
 -- what a welder needs
-pub still_named : {A : Type 0} (old new : Names A) (ids more : List (List ℕ)) (facets : List Facet) → AreNamed old.points.items ids → AreNamedMore old ids facets new more
-    → length ids + length old.degenerate.items + length facets ≤ FACET_LIMIT
-    → AreNamed new.points.items more × (length more + length new.degenerate.items ≤ FACET_LIMIT)
-still_named old new ids more facets own m few = (
+pub still_named : {A : Type 0} (old new : Names A) (ids more : List (List ℕ)) (ranges all : List HeightRange) (facets : List Facet)
+    → AreNamed old.points.items ids → ranges ≡ height_ranges (facets_by old.points.items ids)
+    → AreNamedMore old ids facets new more → all ≡ ranges ++ height_ranges (kept_facets facets) → length ids + length old.degenerate.items + length facets ≤ FACET_LIMIT
+    → AreNamed new.points.items more × (length more + length new.degenerate.items ≤ FACET_LIMIT) × (all ≡ height_ranges (facets_by new.points.items more))
+still_named old new ids more ranges all facets own are m longer few = (
   m.named [] own,
   omega (
     arith,
@@ -113,6 +115,8 @@ still_named old new ids more facets own m few = (
     length-append old.degenerate.items (degenerate_facets facets),
     welder_length facets,
   ),
+  longer ∙ ap (λ (l : List HeightRange). l ++ height_ranges (kept_facets facets)) are
+      ∙ sym (map-append height_range (facets_by old.points.items ids) (kept_facets facets)) ∙ ap height_ranges (sym (m.added [] own)),
 )
 
 -- the limit holds of what a welder has inside

@@ -118,7 +118,7 @@ impl<A: Allocator + Copy> NumberedFacets<A> {
         Ok(())
     }
 
-    /// Appends other facets, which get their numbers here.
+    /// Appends other facets, which need have no numbers.
     pub(crate) fn append(&mut self, more: &NumberedFacets<A>) -> Result<(), AllocError>
         ensures { OnOk result (self.new ≡ self.old ++ more.now) }
     {

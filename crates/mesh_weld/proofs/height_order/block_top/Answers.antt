@@ -1,7 +1,8 @@
-use Rattle.std.proofs.Common.{◌≡◌, ◌≤ℤ◌, ◌+◌, ◌∙◌, ℤ, sym, subst, get_or, take, arith, rules, to_z, of_z, w32}
+use Rattle.std.proofs.Common.{◌≡◌, ◌≤ℤ◌, ◌+◌, ◌∙◌, ℤ, ap, sym, subst, get_or, take, arith, rules, to_z, of_z, w32}
 use Rattle.std.specs.List.{All}
 use Rattle.std.proofs.lemmas.Int.{to_z-of_z}
 use Rattle.mesh_weld.specs.HeightOrder.{high_in}
+use Rattle.mesh_weld.specs.declared.height_order.HeightRange.{HeightRange}
 use Rattle.mesh_weld.proofs.lemmas.HeightOrder.{top_least, top_more, top_whole}
 use Rattle.mesh_weld.proofs.height_order.block_top.Goals as goal
 
@@ -12,14 +13,14 @@ pub loop-number-init : goal.loop-number-init
 loop-number-init c = record {
   within = λ k d l. absurd (omega (arith, l));
   least = λ z all.
-      subst (λ (y : ℤ). y ≤ℤ z) (sym (to_z-of_z w32 c.range_at-first.result.high (search rules) ∙ c.range_at-first.ensures)) (all 0 0 c.requires.some);
+      subst (λ (y : ℤ). y ≤ℤ z) (sym (to_z-of_z w32 c.range_at-first.result.high (search rules) ∙ ap (λ (r : HeightRange). r.high) c.range_at-first.ensures)) (all 0 0 c.requires.some);
 }
 
 pub loop-number-preserved : goal.loop-number-preserved
 loop-number-preserved c =
     let at = c.loop-number in let ranges = c.args.ranges.now in let block = c.args.block.now in
     let is : to_z w32 (of_z w32 c.range_at-range.result.high) ≡ high_in ranges (get_or block at.number-index 0) =
-    to_z-of_z w32 c.range_at-range.result.high (search rules) ∙ c.range_at-range.ensures in
+    to_z-of_z w32 c.range_at-range.result.high (search rules) ∙ ap (λ (r : HeightRange). r.high) c.range_at-range.ensures in
     let same : to_z w32 (of_z w32 c.max-top.result) ≡ c.max-top.result = to_z-of_z w32 c.max-top.result (search rules) in
     record {
       within = subst (λ (y : ℤ). All (λ n. high_in ranges n ≤ℤ y) (take (at.number-index + 1) block)) (sym same)

@@ -1,4 +1,4 @@
-use Rattle.std.proofs.Common.{pos, ap}
+use Rattle.std.proofs.Common.{pos}
 use Rattle.std.proofs.lemmas.List.{get_or_default}
 use Rattle.geometry.specs.Point.{origin}
 use Rattle.geometry.specs.Facet.{facet_with}
@@ -10,6 +10,4 @@ abbrev flat : HeightRange
 flat = record { low = pos 0; high = pos 0 }
 
 pub returns : goal.returns
-returns c =
-    ap (λ (range : HeightRange). range.high)
-    (get_or_default c.args.ranges.now c.args.number flat (height_range (facet_with origin origin origin)) c.requires)
+returns c = get_or_default c.args.ranges.now c.args.number flat (height_range (facet_with origin origin origin)) c.requires

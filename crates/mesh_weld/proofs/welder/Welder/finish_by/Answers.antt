@@ -3,8 +3,8 @@ use Rattle.mesh_weld.specs.Welder.{Welder}
 use Rattle.mesh_weld.specs.Welding.{IsWeldOf}
 use Rattle.mesh_weld.proofs.welder.Welder.finish_by.Goals as goal
 
-pub group_facets_by-found-requires-clause-below : goal.group_facets_by-found-requires-clause-below
-group_facets_by-found-requires-clause-below g c κs within = rw (c.as_slice-points.ensures.value, c.as_slice-ids.ensures.value) c.without_table-named.ensures.named.below
+pub group_facets_by-found-requires-clause-ranges : goal.group_facets_by-found-requires-clause-ranges
+group_facets_by-found-requires-clause-ranges g c κs within = rw (c.as_slice-points.ensures.value, c.as_slice-ids.ensures.value) c.without_table-named.ensures.ranges
 
 pub group_facets_by-found-requires-clause-few : goal.group_facets_by-found-requires-clause-few
 group_facets_by-found-requires-clause-few g c κs within = rw c.as_slice-ids.ensures.value (omega (arith, c.without_table-named.ensures.few))
