@@ -82,7 +82,9 @@ fn weld_and_find<'t, R: Threads + Sync, A: Allocator + Copy + Send + Sync, I: So
         ensures filled { IsFilled I.remaining I.Failures.failure_count source.entry.now source.exit.now next.entry.now next.exit.now result.1 }
     { fill_beside(rt, others, source, next, parts) };
     let room = with_room(welder, facets);
-    let (welded, (first, second), (mut all, filled)) = welder.add_beside(rt, room, &find, &mut fill);
+    let (welded, (first, second), (mut all, filled)) = welder.add_beside(
+        rt, room, &find, &mut fill,
+    );
     all.add(first);
     all.add(second);
     (all, filled.and(weld_fault(welded)))

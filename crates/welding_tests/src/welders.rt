@@ -202,7 +202,7 @@ impl Count for KeptOfRingLists {
 
 #[test]
 fn each_allocation_fails_in_turn_among_many_facets(rt: HostRuntime) {
-    assert!(rt; first_free_turn::<KeptOfRingLists>(rt.alloc(), 100, 4608) > Some(30));
+    assert!(rt; first_free_turn::<KeptOfRingLists>(rt.alloc(), 200, 4608) > Some(30));
 }
 
 /// Adds facets to a welder: whether it has taken them, or `None` if there is no room.
