@@ -47,7 +47,7 @@ pub(crate) fn fed_by<R: Threads + Sync, A: Allocator + Copy + Send + Sync>(
 ) -> Result<Solid<A>, WeldFault> {
     let mut welder = Welder::new(alloc);
     let mut rest = facets;
-    'lists: while rest.len() > 0 {
+    for _ in 0..facets.len() / LIST_LEN + 1 {
         let (part, behind) = rest.split_at(LIST_LEN.min(rest.len()));
         rest = behind;
         if welder.count() > ROOM || part.len() > ROOM {
