@@ -221,7 +221,7 @@ fn each_allocation_fails_in_turn(rt: HostRuntime) {
 }
 
 /// More allocations than a weld asks for.
-const ALLOCATIONS: u64 = 200;
+const ALLOCATIONS: u64 = 600;
 
 /// Several threads weld facets, and each allocation fails in turn until none is left to fail. Returns which turn that was. It is
 /// `None` if a weld with a failed allocation returned anything but `Memory`, the last one has other counts, or `ALLOCATIONS`
