@@ -112,7 +112,3 @@ welded_given facets given old new all welded =
     λ taken own few.
     let is : old ≡ welder_of taken = own (omega (arith, few, length-append taken facets)) in
     welded taken is ∙ ap (λ (l : List Facet). welder_of (taken ++ l)) (all taken is few)
-
-pub welded_ok : {E F : Type 0} (r : Result (Unit {0}) E) (s : Result (Unit {0}) F) (H : Type 0) → OnOk r (s ≡ Ok tt) → (s ≡ Ok tt → H) → OnOk r H
-welded_ok (Ok x) s H is h = h is
-welded_ok (Err x) s H is h = tt

@@ -121,10 +121,6 @@ welder_length (t ∷ ts) = by_test (is_kept t) refl (welder_length ts)
         ap (λ b. length (cond b (t ∷ kept_facets ts) (kept_facets ts)) + length (cond (not b) (t ∷ degenerate_facets ts) (degenerate_facets ts))) h
         ∙ (let e : length (kept_facets ts) + suc (length (degenerate_facets ts)) ≡ suc (length ts) = omega (arith, rest) in e)
 
-pub with_length : (w : Welder) (fs : List Facet) → length (with_facets w fs).kept + length (with_facets w fs).degenerate ≡ length w.kept + length w.degenerate + length fs
-with_length w fs =
-    omega (arith, length-append w.kept (kept_facets fs), length-append w.degenerate (degenerate_facets fs), welder_length fs)
-
 -- ---- ids that name facets, among points that are distinct
 module _ (ps : List Point) (ids : List (List ℕ)) (n : AreNamed ps ids) where
   abbrev fs : List Facet
