@@ -9,7 +9,7 @@ use Rattle.geometry.specs.Facet.{Facet, corners, facet_with}
 use Rattle.geometry.specs.declared.limits.TheConstants.{CORNER_LIMIT}
 use Rattle.mesh_weld.specs.PointOrder.{AreDistinct, IsAppendedOrSame}
 use Rattle.mesh_weld.specs.CornerIds.{AreIds, ranks_of}
-use Rattle.mesh_weld.specs.Welder.{AreBelow, AreNamed, IsNamed, IsNamedFacet, Welder, degenerate_facets, with_facets}
+use Rattle.mesh_weld.specs.Welder.{AreBelow, AreNamed, IsNamed, IsNamedFacet, degenerate_facets}
 use Rattle.mesh_weld.specs.Solid.{facet_by, facets_by, in_order, is_kept, kept_facets, number_of, triples, vertices}
 use Rattle.mesh_weld.proofs.lemmas.InOrder.{in_order-alike}
 use Rattle.mesh_weld.proofs.lemmas.Ranks.{number_distinct, three_items}
