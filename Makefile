@@ -88,7 +88,7 @@ test-library: $(LIBRARY) $(PROGRAM)  ## compares the library's layers, in C, C++
 
 web: build/web/preview.html  ## a page that slices in a browser: the library as WebAssembly, in build/web/preview.html
 
-build/web/preview.html: $(LIBRARY) $(LIBRARY_SOURCES) library/rattle_heap.ll docs/refused.md $(wildcard library/web/*.* commands/stlslice_commands/printers.* examples/*.stl)
+build/web/preview.html: $(LIBRARY) $(LIBRARY_SOURCES) library/rattle_heap.ll docs/refused.md $(wildcard library/web/*.* python/stlslice/printers.* examples/*.stl)
 	CC="$(CC)" library/build page $(LLVM_MODULE) build/web $(VERSION) $(PREFIX)
 
 # Without Chromium the test ends with status 77 and one line: it was skipped.

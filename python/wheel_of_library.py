@@ -33,7 +33,7 @@ def made(version, library, folder):
     # the name by which the module finds it
     named = "stlslice.dll" if tag.endswith("win_amd64") else "libstlslice.so.1"
     files = {f"stlslice/{named}": library, f"{info}/LICENSE": os.path.join(HERE, "..", "LICENSE")}
-    files.update((f"stlslice/{name}", os.path.join(HERE, "stlslice", name)) for name in ("__init__.py", "py.typed"))
+    files.update((f"stlslice/{os.path.basename(it)}", it) for it in sorted(glob.glob(f"{HERE}/stlslice/*.*")))
     files.update((f"stlslice_commands/{os.path.basename(it)}", it) for it in sorted(glob.glob(f"{COMMANDS}/*.*")))
     content = {}
     for name, path in files.items():

@@ -13,7 +13,7 @@ from parts import layers_of
 
 COMMANDS = ("stlslice", "stlslice-sl1", "stlslice-pngs", "stlslice-slabs", "stlslice-page")
 # For each place the file that is copied there. stlslice-pngs has the completions of stlslice-sl1.
-PLACES = {"share/stlslice/stlslice_commands/printers.csv": "commands/stlslice_commands/printers.csv",
+PLACES = {"share/stlslice/stlslice/printers.csv": "python/stlslice/printers.csv",
           **{f"share/doc/stlslice/{it}": it for it in ("README.md", "LICENSE", "CHANGELOG.md", "SECURITY.md")}}
 for name in COMMANDS:
     words = name.replace("pngs", "sl1")

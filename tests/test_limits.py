@@ -15,7 +15,7 @@ SPELLED = {
         ("docs/formats.md", "has to lie in -{} to {}."), ("man/stlslice.1", r"\-{} to {}.", "within {m} m of the origin"),
         ("include/stlslice.h", "each at most {} from 0"), ("docs/PROVED.md", "at most {m} metres up"),
         ("python/stlslice/__init__.py", "points at most {m} metres from 0"),
-        ("commands/stlslice_commands/meshes.py", "reaches beyond {m} m from the origin"),
+        ("python/stlslice/threemf.py", "reaches beyond {m} m from the origin"),
         ("crates/test_meshes/src/published.rt", "FARTHEST: i32 = {};")],
     "geometry::CENTRE_LIMIT": [
         ("docs/formats.md", "is above {}; equal is allowed"),
@@ -53,7 +53,7 @@ SPELLED = {
         ("docs/refused.md", "More than {} facets"), ("SECURITY.md", "and the mesh {} facets"),
         ("README.md", "at most {} facets and"), ("docs/printing.md", "| more than {} facets |", "[more than {} facets]"),
         ("man/stlslice-sl1.1", "more than {} facets"), ("man/stlslice-pngs.1", "more than {} facets"),
-        ("commands/stlslice_commands/meshes.py", "FACETS = {}"), ("commands/stlslice_commands/shells.py", "LIMIT = {} - 2"),
+        ("python/stlslice/threemf.py", "FACETS = {}"), ("python/stlslice/shells.py", "LIMIT = {} - 2"),
         ("commands/stlslice_commands/words.py", "more than {} facets"),
         ("commands/stlslice_commands/parts.py", "a mesh has at most {} facets"),
         ("library/tests/hostile.c", "MOST = {} }", "too many facets at triangle {}")],
@@ -69,7 +69,7 @@ SPELLED = {
         *((f"completions/stlslice-{it}.fish", "Threads of the slicer, 1 to {}'") for it in ("sl1", "page"))],
     "micro_num::WORD_LIMIT": [
         ("docs/formats.md", "At most {} bytes."), ("docs/refused.md", "{} bytes"),
-        ("commands/stlslice_commands/meshes.py", "LONGEST = {} # bytes of a number")],
+        ("python/stlslice/exact.py", "LONGEST = {} # bytes of a number")],
     "stl_text::WORD_FRONT": [
         ("docs/decisions/front-of-a-word.md", "keeps the first {} bytes of such a word"),
         ("docs/usage.md", "holds the first {} bytes of a word")],

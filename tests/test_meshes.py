@@ -18,12 +18,13 @@ from measure import exit_status
 from parts import FACES, SIDES, binary, box, formats, lines, obj, points, text
 
 import stlslice
-from stlslice_commands import faults, meshes, sl1, slicing  # noqa: F401, so that no run has to read it
+from stlslice import exact, obj as objs, threemf
+from stlslice_commands import sl1, slicing  # noqa: F401, so that no run has to read it
 
 SCREEN = ["--canvas", "160x120", "--pitch", "250", "--layer", "500"]
 LOW, HIGH = (0, 0, 0), (10, 20, 30)
 RELATIONSHIPS = ('<Relationships xmlns="http://schemas.openxmlformats.org/package/2006/relationships">'
-                 f'<Relationship Target="/3D/3dmodel.model" Id="r" Type="{meshes.MODEL}"/></Relationships>')
+                 f'<Relationship Target="/3D/3dmodel.model" Id="r" Type="{threemf.MODEL}"/></Relationships>')
 
 
 def mesh(low, high):
@@ -50,7 +51,7 @@ VERTEX = '<vertex x="1" y="2" z="3"/>'
 
 
 def model(objects=BOX, items='<item objectid="1"/>', words="", head=""):
-    return (f'<?xml version="1.0"?>{head}<model {words} xmlns="{meshes.CORE.strip()}"><resources>{objects}</resources>'
+    return (f'<?xml version="1.0"?>{head}<model {words} xmlns="{threemf.CORE.strip()}"><resources>{objects}</resources>'
             f"<build>{items}</build></model>")
 
 
@@ -71,23 +72,23 @@ def box_of(found):
     places, corners = found
     sides = [places[k::3] for k in range(3)]
     triangles = [[tuple(places[3 * at:3 * at + 3]) for at in corners[k:k + 3]] for k in range(0, len(corners), 3)]
-    volume = sum(meshes.dot(meshes.cross(a, b), c) for a, b, c in triangles)
+    volume = sum(exact.dot(exact.cross(a, b), c) for a, b, c in triangles)
     return [min(side) for side in sides], [max(side) for side in sides], len(triangles), volume
 
 
 def read_obj(body, unit="mm"):
-    return meshes.read_obj(body.encode(), unit)
+    return objs.read_obj(body.encode(), unit)
 
 
 def read_3mf(body, *more):
-    return meshes.read_3mf(body if isinstance(body, bytes) else packed(body, *more), 1 << 20)
+    return threemf.read_3mf(body if isinstance(body, bytes) else packed(body, *more))
 
 
 def refusal(read, *words):
     """What isn't taken, or is refused, in a line; or an empty text."""
     try:
         read(*words)
-    except (faults.Refused, meshes.NotTaken) as fault:
+    except stlslice.Fault as fault:
         return f"{type(fault).__name__}: {fault}"
     return ""
 
@@ -133,7 +134,7 @@ class Objs(Case):
         for what, corners in taken.items():
             same(polygon(corners), "", what)
         for corners in odd:
-            line = f"NotTaken: line {len(corners) + 1} of the OBJ: a face isn't flat and convex"
+            line = f"FormatFault: line {len(corners) + 1} of the OBJ: a face isn't flat and convex"
             same(polygon(corners), line, str(corners))
 
     def test_what_is_wrong_is_told_with_its_line(self):
@@ -147,8 +148,8 @@ class Objs(Case):
                            ("v 0 0 0\nf" + 10_001 * " 1", "2 of the OBJ: a face has more than 10,000 corners"),
                            *((f"v 0 0 0\nf 1 1 {at}", f"2 of the OBJ: there is no point '{at}'")
                              for at in ("2", "0", "-2", "+1", "1.5", "x", "1_0", "1/x", "\u0661"))):
-            same(refusal(read_obj, body), f"Refused: line {line}", body[:40])
-        same(refusal(read_obj, "v 0 0 0\ncurv 0 1 1"), "NotTaken: line 2 of the OBJ: curv isn't taken", "a curve")
+            same(refusal(read_obj, body), f"Fault: line {line}", body[:40])
+        same(refusal(read_obj, "v 0 0 0\ncurv 0 1 1"), "FormatFault: line 2 of the OBJ: curv isn't taken", "a curve")
 
 
 class ThreeMfs(Case):
@@ -190,7 +191,7 @@ class ThreeMfs(Case):
                                      "builds an object of the type surface"),
                                     *(([model(), it], "has volumes that are none of the part, such as modifiers")
                                       for it in configs)):
-            same(refusal(read_3mf, body, *more), f"NotTaken: the 3MF {line}", str(more))
+            same(refusal(read_3mf, body, *more), f"FormatFault: the 3MF {line}", str(more))
 
     def test_what_is_wrong_is_told(self):
         def changed(old, new):
@@ -222,10 +223,10 @@ class ThreeMfs(Case):
                 (model(head="<!DOCTYPE a>"), "its XML has a document type"),
                 (model().replace("?>", ' encoding="none"?>', 1), "unknown encoding: none"),
                 (packed(model())[:300], "it is cut, or no zip")):
-            same(refusal(read_3mf, body), f"Refused: the 3MF can't be read: {line}", line)
+            same(refusal(read_3mf, body), f"Fault: the 3MF can't be read: {line}", line)
 
 
-def each_holding(count, last, transform=meshes.IDENTITY):
+def each_holding(count, last, transform=threemf.IDENTITY):
     """Objects that each hold the one before, so many times."""
     return "".join(holding(k, count * placed(transform, k - 1, "component")) for k in range(2, last + 1))
 

@@ -15,7 +15,7 @@ PLACES = """./usr/bin/stlslice ./usr/share/man/man1/stlslice.1.gz ./usr/share/do
 ./usr/share/doc/stlslice/changelog.gz ./usr/share/doc/stlslice/examples/bracket.stl
 ./usr/share/bash-completion/completions/stlslice ./usr/share/zsh/vendor-completions/_stlslice
 ./usr/share/fish/vendor_completions.d/stlslice.fish ./usr/bin/stlslice-sl1 ./usr/bin/stlslice-pngs
-./usr/bin/stlslice-slabs ./usr/share/stlslice/stlslice_commands/printers.csv ./usr/share/man/man1/stlslice-sl1.1.gz
+./usr/bin/stlslice-slabs ./usr/share/stlslice/stlslice/printers.csv ./usr/share/man/man1/stlslice-sl1.1.gz
 ./usr/share/zsh/vendor-completions/_stlslice-sl1 ./usr/share/bash-completion/completions/stlslice-pngs
 ./usr/bin/stlslice-page ./usr/share/man/man1/stlslice-page.1.gz ./usr/share/zsh/vendor-completions/_stlslice-page""".split()
 
@@ -126,7 +126,7 @@ class Tarball(Together):
     def test_it_has_what_goes_with_the_program(self):
         for name in ("README.md", "LICENSE", "stlslice.1", "completions/_stlslice", "docs/PROVED.md", "CONTRIBUTING.md",
                      "SECURITY.md", "stlslice-sl1.1", "stlslice-page.1", "completions/_stlslice-page",
-                     "stlslice_commands/printers.csv", "python/stlslice/__init__.py", "completions/stlslice-sl1.fish",
+                     "stlslice_commands/sl1.py", "python/stlslice/__init__.py", "completions/stlslice-sl1.fish",
                      "examples/bracket.stl"):
             assert os.path.exists(os.path.join(self.folder, name)), f"{name} isn't in it"
         links_hold(self.folder)

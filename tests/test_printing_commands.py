@@ -35,7 +35,8 @@ def changed(facets, change):
 LIMITED = """import sys
 sys.argv[0], limit = "stlslice-sl1", int(sys.argv.pop(1))
 sys.path.insert(0, sys.argv.pop(1))
-from stlslice_commands import shells, sl1
+from stlslice import shells
+from stlslice_commands import sl1
 shells.LIMIT = limit
 sl1.run()
 """

@@ -1,5 +1,5 @@
-"""The package behind the commands, as installed, function by function: PNGs joined, shells, values of options, formats, the
-table of printers."""
+"""The packages of the commands and of Python, as installed, function by function: PNGs joined, shells, values of options, formats,
+the table of printers."""
 
 import argparse
 import ast
@@ -20,7 +20,9 @@ from as_installed import PAGE, PNGS, SHARE, SL1, SLABS
 from common import Case, same, skip, text_of
 from parts import box, pixels_of_p4, pixels_of_png, png_of_p4
 
-from stlslice_commands import faults, images, parts, printers, shells, sl1, words
+import stlslice
+from stlslice import images, printers, shells
+from stlslice_commands import faults, parts, sl1, words
 from stlslice_commands.faults import Refused
 
 PROFILES = "/usr/share/PrusaSlicer/profiles/PrusaResearch.ini"
@@ -58,8 +60,8 @@ def ones(number):
 def refused(made, status, line):
     try:
         made()
-    except Refused as fault:
-        return same((fault.status, fault.line), (status, line), "refusal")
+    except (Refused, stlslice.Fault) as fault:
+        return same((fault.status, fault.line if isinstance(fault, Refused) else str(fault)), (status, line), "refusal")
     raise AssertionError(f"not refused: {line}")
 
 
@@ -101,31 +103,32 @@ class Module(Case):
         mixed = [facet for facets in zip(*bodies) for facet in facets]
         for limit, sizes in ((84, [7]), (36, [3, 3, 1]), (12, [1] * 7), (40, [3, 3, 1])):
             with mock.patch.object(shells, "LIMIT", limit):
-                places, groups, more = shells.grouped(mixed)
+                places, groups = shells.split(mixed)
             corners = list(zip(places[::3], places[1::3], places[2::3]))
-            *found, more = [[tuple(corners[it] for it in group[at:at + 3]) for at in range(0, len(group), 3)]
-                            for group in (*groups, more)]
+            found = [[tuple(corners[it] for it in group[at:at + 3]) for at in range(0, len(group), 3)] for group in groups]
             begins = itertools.accumulate([0, *sizes])
             wanted = [[it for it in mixed if any(it in body for body in bodies[at:at + size])] for at, size in zip(begins, sizes)]
-            same(found, wanted, f"groups of at most {limit} facets")
-            (low, high, between), turned = more
+            same([group[:-2] for group in found], wanted, f"groups of at most {limit} facets")
+            same([group[-2:] for group in found], [found[0][-2:]] * len(found), "what is put to each group")
+            (low, high, between), turned = found[0][-2:]
             same((low, high, turned), ((0, 0, 0), (33, 3, 3), (low, between, high)), "the two facets that reach through the box")
             assert between not in (low, high), "the two facets are degenerate"
-        places, _, more = shells.grouped(mixed + [((99, 99, 99), (99, 99, 99), (0, 0, 0))])
-        same([list(places[3 * it:3 * it + 3]) for it in more[:2]], [[0, 0, 0], [33, 3, 3]], "ends beside a degenerate facet")
+        places, (group,) = shells.split(mixed + [((99, 99, 99), (99, 99, 99), (0, 0, 0))])
+        same([list(places[3 * it:3 * it + 3]) for it in group[-6:-4]], [[0, 0, 0], [33, 3, 3]], "ends beside a degenerate facet")
         with mock.patch.object(shells, "LIMIT", 11):
-            refused(lambda: shells.grouped(mixed), 3,
-                    "the part has a shell of 12 facets, and --shells takes at most 11: export it coarser")
+            refused(lambda: shells.split(mixed), 3,
+                    "the part has a shell of 12 facets, and at most 11 are taken: export it coarser")
+        same([list(it) for it in shells.split([])], [[], []], "points and groups of no facet")
         # long strips whose facets stand in any order, so that pieces of a strip that were found apart are joined later
         strips = [[((k, 1, 9 * strip), (k, 0, 9 * strip), (k + 1, 0, 9 * strip)) for k in range(300)] for strip in range(3)]
         mixed = [facet for strip in strips for facet in strip]
         random.Random(11).shuffle(mixed)
         with mock.patch.object(shells, "LIMIT", 300):
-            places, groups, _ = shells.grouped(mixed)
-        heights = [{places[3 * it + 2] for it in group} for group in groups]
+            places, groups = shells.split(mixed)
+        heights = [{places[3 * it + 2] for it in group[:-6]} for group in groups]
         same(sorted(map(list, heights)), [[0], [9], [18]], "strips in groups of their own")
-        same([len(group) for group in groups], [900] * 3, "strips")
-        same(shells.packed([*"aaaaab", *"b" * (shells.LIMIT - 3), *"ccddd"]), ({"a": 0, "b": 1, "c": 0, "d": 0}, 2), "first fit")
+        same([len(group) for group in groups], [906] * 3, "strips")
+        same(shells._packed([*"aaaaab", *"b" * (shells.LIMIT - 3), *"ccddd"]), ({"a": 0, "b": 1, "c": 0, "d": 0}, 2), "first fit")
 
     def test_files_are_whole_or_not_there(self):
         """Two runs for one output, as in containers, whose processes have the same number: each has a file of its own."""
@@ -218,7 +221,7 @@ class Module(Case):
 
     def test_sources_are_for_old_python(self):
         """Python 3.8 can read them, as the documents say."""
-        sources = [*glob.glob(os.path.join(SHARE, "stlslice_commands", "*.py")), SL1, PNGS, PAGE, SLABS]
-        assert len(sources) > 10, sources
+        sources = [*glob.glob(os.path.join(SHARE, "*", "*.py")), SL1, PNGS, PAGE, SLABS]
+        assert len(sources) > 16, sources
         for source in sources:
             ast.parse(text_of(source), source, feature_version=(3, 8))

@@ -13,9 +13,10 @@ import io
 import os
 import re
 import sys
+import zipfile
 
 from common import BRACKET, GEAR, ROOT, Case, Together, bytes_of, library, python_with, same, skip, text_of, version
-from parts import zipped
+from parts import FACES, box, lines, obj, points, text, zipped
 
 USE = """
 import hashlib, os, sys, stlslice
@@ -28,7 +29,11 @@ except stlslice.Fault as fault:
     print(fault.status, fault.line)
 """
 LACKING = "import os, signal; del signal.SIGHUP, signal.pthread_sigmask, os.sched_getaffinity; "
-COMMANDS = [it for it in os.listdir(os.path.join(ROOT, "commands/stlslice_commands")) if "." in it]
+# the names of 3MF
+CORE = "http://schemas.microsoft.com/3dmanufacturing/core/2015/02"
+MODEL = "http://schemas.microsoft.com/3dmanufacturing/2013/01/3dmodel"
+FILES = {f"{os.path.basename(folder)}/{it}" for folder in ("python/stlslice", "commands/stlslice_commands")
+         for it in os.listdir(os.path.join(ROOT, folder)) if "." in it}
 
 
 def made(room, name):
@@ -56,10 +61,9 @@ class Wheel(Together):
 
     def test_its_record_has_each_file_with_hash_and_size(self):
         info, files = f"stlslice-{version()}.dist-info", zipped(self.wheel)
-        wanted = [f"stlslice/{it}" for it in ("__init__.py", "libstlslice.so.1", "py.typed")]
-        wanted += [it for it in files if it.startswith("stlslice_commands/") and it[18:] in COMMANDS] + [f"{info}/entry_points.txt"]
-        same(sum(it.startswith("stlslice_commands/") for it in wanted), len(COMMANDS), "files of the commands")
-        same(sorted(files), sorted(wanted + [f"{info}/{it}" for it in ("LICENSE", "METADATA", "RECORD", "WHEEL")]), "files")
+        wanted = FILES | {"stlslice/libstlslice.so.1"}
+        wanted |= {f"{info}/{it}" for it in ("LICENSE", "METADATA", "RECORD", "WHEEL", "entry_points.txt")}
+        same(sorted(files), sorted(wanted), "files")
         assert files["stlslice/libstlslice.so.1"] == bytes_of(library()), "its library isn't the one that was built"
         rows = {name: (told, size) for name, told, size in csv.reader(io.StringIO(files[f"{info}/RECORD"].decode()))}
         same(sorted(rows), sorted(files), "names of the record")
@@ -120,6 +124,18 @@ class Wheel(Together):
         preview = re.search(r"(?ms)^## A preview in Python\n.*?^```python\n(.*?)^```$", text_of("docs/embedding.md"))[1]
         picture = self.room.out(python, "-c", preview, path=GEAR, env=env, text=False)
         same((picture[:15], len(picture)), (b"P5\n300 300\n255\n", 15 + 90000), "a picture of 300 by 300 pixels")
+        others = re.search(r"(?ms)^## Other parts in Python\n.*?^```python\n(.*?)^```$", text_of("docs/embedding.md"))[1]
+        self.room.put("part.stl", text(box((0, 0, 0), (10, 20, 30)) + box((5, 5, 5), (20, 10, 40))))
+        self.room.put("part.obj", obj((0, 0, 0), (1, 2, 3)))
+        vertices = lines('<vertex x="%d" y="%d" z="%d"/>', points((0, 0, 0), (1, 2, 3)))
+        triangles = lines('<triangle v1="%d" v2="%d" v3="%d"/>', FACES)
+        with zipfile.ZipFile(self.room.file("part.3mf"), "w") as file:
+            file.writestr("_rels/.rels", f'<Relationships><Relationship Type="{MODEL}" Target="/a"/></Relationships>')
+            file.writestr("a", f'<model unit="inch" xmlns="{CORE}"><resources><object id="1"><mesh><vertices>{vertices}</vertices>'
+                          f'<triangles>{triangles}</triangles></mesh></object></resources><build><item objectid="1"/></build></model>')
+        shown = "print(len(pngs), sum(lit for _, lit in pngs) == sum(stlslice.open('part.stl', **how).areas()))"
+        told = self.room.out(python, "-c", others + shown, cwd=self.room.path, env=env)
+        same(told, "1524 layers\n600 layers\n800 True\n", "lines on other parts")
 
 
 TEXT = bytes_of(BRACKET)

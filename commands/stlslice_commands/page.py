@@ -9,7 +9,6 @@ from pathlib import Path
 
 from . import words
 from .faults import Progress, Refused, command, finish, in_mm, shown, whole_file
-from .images import smallest
 
 MOST = 16_384  # columns and rows of a screen
 
@@ -52,6 +51,7 @@ def reached(given, box):
 def page_of(given, mesh, areas, size, volume):
     """The page, which asks no network. It has each image once, as stlslice writes it, and for each layer the number of its image
     and how many of its pixels are lit."""
+    from stlslice.images import smallest  # only here, as the part
     layers, height, width = mesh.shape
     columns, rows = given.canvas or (width, height)
     name = given.title or ("part" if given.part == "-" else os.path.basename(given.part))

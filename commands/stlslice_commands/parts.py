@@ -1,4 +1,4 @@
-"""What people have: an STL, ASCII or binary, an OBJ, a 3MF, or another format, which is refused with the command that converts it."""
+"""What people have: an STL, an OBJ, a 3MF, or another format, which is refused with the command that converts it."""
 
 import re
 import sys
@@ -11,6 +11,7 @@ from . import formats
 from .faults import Progress, Refused, in_mm, named, refuse_if, say
 
 SHELLS = "a mesh has at most 1,048,576 facets; --shells slices a larger part shell by shell, if it has several"
+NO_FACETS = "the part has no facets"
 OPEN = 4  # the library's status if a mesh is open
 ONE_VOXEL = {"pitch": 1000, "layer": 1000, "grid": (1, 1, 1, 0, 0, 0)}
 
@@ -26,15 +27,18 @@ class Part:
         kind = kind_of(data)
         self.unit = None if kind == "3MF" else given.unit
         arrays = arrays_of(kind, data, given) if kind else None
+        if arrays or self.shells:
+            from stlslice import shells  # only here, since each start reads what it imports anew
         if self.shells:
-            from .shells import facets_of, grouped  # only here, since each start reads what it imports anew
-            facets = facets_of(*arrays) if arrays else self.asked(partial(stlslice.read, data, given.unit))[0]
-            points, groups, more = grouped(facets)
-            # an open edge is told as it is without the facets that are put to each group
-            self.asked(*(partial(stlslice.open_mesh, points, it, **ONE_VOXEL) for it in groups))
-            self.calls, self.to_box = [partial(stlslice.open_mesh, points, it + more) for it in groups], partial(box_of, points, more)
+            facets = shells.facets_of(*arrays) if arrays else self.asked(partial(stlslice.read, data, given.unit))[0]
+            points, groups = taken(shells.split, facets)
+            refuse_if(not groups, NO_FACETS)
+            # an open edge is told as it is without the two facets that are put to each group
+            self.asked(*(partial(stlslice.open_mesh, points, it[:-6], **ONE_VOXEL) for it in groups))
+            self.calls = [partial(stlslice.open_mesh, points, it) for it in groups]
+            self.to_box = partial(shells.box_of, points, groups[0][-6:])
         elif arrays:
-            self.calls, self.to_box = [partial(stlslice.open_mesh, *arrays)], partial(box_of, *arrays)
+            self.calls, self.to_box = [partial(stlslice.open_mesh, *arrays)], partial(shells.box_of, *arrays)
         else:
             self.calls, self.to_box = [partial(stlslice.open, data, unit=given.unit)], partial(stlslice.box, data, given.unit)
 
@@ -68,7 +72,7 @@ class Part:
             return []
         if isinstance(fault, MemoryError) or not isinstance(fault, stlslice.Fault):
             raise fault
-        refuse_if(str(fault) == "no facet is left" and not self.box.facets, "the part has no facets")
+        refuse_if(str(fault) == "no facet is left" and not self.box.facets, NO_FACETS)
         is_large = "too many facets" in str(fault)
         raise Refused(SHELLS if is_large and self.shells is False else None, 3 if is_large else fault.status, fault.line + "\n")
 
@@ -76,13 +80,6 @@ class Part:
         or_unit = f", or its unit another than {self.unit}" if self.unit else ""
         refuse_if(not any(areas), f"no pixel is lit by --rule {rule}: is the part inside out (try --rule nonzero){or_unit}? "
                   f"It is {in_mm(self.size)} mm")
-
-
-def box_of(points, triangles):
-    """The box of the facets of arrays. They need not be closed."""
-    used = set(triangles)
-    low, high = ([end((points[3 * it + k] for it in used), default=0) for k in range(3)] for end in (min, max))
-    return stlslice.Box(len(triangles) // 3, low, high)
 
 
 def read(path):
@@ -115,10 +112,17 @@ def arrays_of(kind, data, given):
     advice = f"{'unpack' if kind in ('zip', 'gzip') else 'convert'} it: {formats.command_for(kind, name)}"
     refuse_if(kind not in ("OBJ", "3MF"), f"the part is {kind}, not STL; {advice}", 3)
     refuse_if(kind == "3MF" and given.unit != "mm", "a 3MF has a unit of its own: leave out --unit", 2)
-    from . import meshes  # only here, since each start reads what it imports anew
+    if kind == "OBJ":
+        from stlslice.obj import read_obj  # only here, since each start reads what it imports anew
+        return taken(read_obj, data, given.unit, advice=advice)
+    from stlslice.threemf import FACETS, read_3mf
+    # of more facets the library takes no mesh, but shells of a larger one
+    return taken(read_3mf, data, most=FACETS * (16 if getattr(given, "shells", False) else 1), advice=advice)
+
+
+def taken(read, *words, advice=None, **more):
+    """What a reader of the module returns. How far it is is shown; to what it doesn't take the advice is added."""
     try:
-        # of more facets the library takes no mesh, but shells of a larger one
-        most = meshes.FACETS * (16 if getattr(given, "shells", False) else 1)
-        return meshes.read_obj(data, given.unit) if kind == "OBJ" else meshes.read_3mf(data, most)
-    except meshes.NotTaken as fault:
-        raise Refused(f"{fault}; {advice}", 3)
+        return read(*words, progress=lambda it: Progress.show(f"reading: {it}"), **more)
+    except stlslice.Fault as fault:
+        raise Refused(f"{fault}; {advice}" if isinstance(fault, stlslice.FormatFault) else str(fault), fault.status)

@@ -11,6 +11,7 @@ from .faults import command, refuse_if, say, shown, whole_file
 
 LATEST = (2107, 12, 31, 23, 59, 58)  # the last moment that a zip can hold
 LEVEL = 1  # of deflating the library's PNGs once more: long runs of pixels are bytes 0 in them
+NAME = words.taking("a name", "(?s:.*)", lambda text: shown(" ".join(text.split())))
 COUNT = words.taking("a whole number, 0 to 999", r"\d{1,3}", int)
 SECONDS = words.taking("seconds above 0 and below 100000, as 2.2", r"\d{1,5}(?:\.\d{1,6})?", lambda text: float(text) or None)
 FIRST = 3  # layers with the first exposure, before it fades to that of the others
@@ -26,7 +27,7 @@ def run():
         help="seconds a layer is exposed (the printer's, else 2.2); a line says if that is for layers of another height")
     add("--first-exposure", type=SECONDS, metavar="S", help="the same of the first layers (the printer's, else 25)")
     add("--fade", type=COUNT, metavar="N", help="layers over which the exposure fades from the first to the other (10)")
-    add("--material", type=one_line, metavar="NAME", help="the resin's name, for the printer to show (the printer's, else resin)")
+    add("--material", type=NAME, metavar="NAME", help="the resin's name, for the printer to show (the printer's, else resin)")
     given = words.read(parser)
     fill_in(given)
     now = moment()
@@ -52,8 +53,7 @@ def fill_in(given):
 def moment():
     """The time that is written into the archive: that of SOURCE_DATE_EPOCH if it is set."""
     told = os.environ.get("SOURCE_DATE_EPOCH", str(int(time.time())))
-    is_right = re.fullmatch(r"[0-9]{1,11}", told)
-    refuse_if(not is_right, "SOURCE_DATE_EPOCH takes whole seconds since 1970, of at most eleven digits")
+    refuse_if(not re.fullmatch(r"[0-9]{1,11}", told), "SOURCE_DATE_EPOCH takes whole seconds since 1970, of at most eleven digits")
     return time.gmtime(int(told))
 
 
@@ -112,10 +112,6 @@ def profile(given):
         "exposure_time": f"{given.exposure:g}", "initial_exposure_time": f"{given.first_exposure:g}", "faded_layers": given.fade,
         "layer_height": f"{given.layer / 1000:g}", "initial_layer_height": f"{given.layer / 1000:g}",
     }
-
-
-def one_line(text):
-    return shown(" ".join(text.split()))
 
 
 def job_name(output):

@@ -2,8 +2,9 @@
 
 from functools import partial
 
+from stlslice.images import joined
+
 from .faults import Progress, Refused, finish, in_mm, refuse_if, say
-from .images import joined
 from .parts import OPEN, Part
 
 
@@ -67,8 +68,7 @@ class Sliced:
         # What `nonzero` lights and `positive` doesn't is enclosed more often inwards than outwards. Images of several meshes
         # can't be joined then, since an overlap with another mesh may be dark.
         if other and pixels != by_other:
-            line = "a shell is inside out, or bounds a hollow: --shells joins such shells by --rule evenodd alone"
-            refuse_if(count > 1, line)
+            refuse_if(count > 1, "a shell is inside out, or bounds a hollow: --shells joins such shells by --rule evenodd alone")
             say(f"a shell is inside out somewhere: {self.millilitres(*pixels):.3f} ml by --rule positive, "
                 f"{self.millilitres(*by_other):.3f} ml by --rule nonzero; look at the layers")
         return found[:count]

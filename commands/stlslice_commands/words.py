@@ -45,8 +45,7 @@ millimetres = taking("millimetres above 0 and below 1000000, as 150 or 149.5", r
 
 def processors():
     """As many workers as there are processors to be used, and as are taken."""
-    used = len(os.sched_getaffinity(0)) if hasattr(os, "sched_getaffinity") else os.cpu_count() or 1
-    return min(used, MOST_WORKERS)
+    return min(len(os.sched_getaffinity(0)) if hasattr(os, "sched_getaffinity") else os.cpu_count() or 1, MOST_WORKERS)
 
 
 class Parser(argparse.ArgumentParser):
@@ -59,7 +58,7 @@ class Listing(argparse.Action):
     """`--printer help` lists the printers and ends; another word has to be a model of the list."""
 
     def __call__(self, parser, given, word, option=None):
-        from .printers import listed, printers  # only here, since each start reads what it imports anew
+        from stlslice.printers import listed, printers  # only here, since each start reads what it imports anew
         if word == "help":
             print(listed(), end="")
             parser.exit()

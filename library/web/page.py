@@ -14,10 +14,10 @@ import zlib
 
 HERE = os.path.dirname(os.path.abspath(__file__))
 ROOT = os.path.dirname(os.path.dirname(HERE))
-sys.path.append(os.path.join(ROOT, "commands"))
+sys.path.append(os.path.join(ROOT, "python", "stlslice"))
 sys.dont_write_bytecode = True
 
-from stlslice_commands.printers import printers  # noqa: E402
+from printers import printers  # noqa: E402
 
 # Scripts, joined in this order; a name that one declares is seen in all of its list.
 ON_PAGE = ["numbers", "lines", "page", "slicer", "settings", "screens", "hints", "view", "plot", "saving", "hands"]

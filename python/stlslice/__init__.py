@@ -22,6 +22,12 @@ quarters, and its images are what the screen shows:
     for png in mesh.pngs(workers=4):
         ...
 
+What files and parts of other kinds take is in modules of their own:
+
+    stlslice.obj.read_obj, stlslice.threemf.read_3mf    # points and triangles of an OBJ or a 3MF, for `open_mesh`
+    stlslice.shells.split                               # a part of more facets than a mesh may have, as several meshes
+    stlslice.images.joined                              # their PNGs as one
+
 A mask is laid out as the program's image: its first row is that of the greatest y. `probe` counts rows from the least y
 up, so the pixel of its column i and row j is `mask[rows - 1 - j, i]`, or `mask[::-1][j, i]`. Lengths are whole micrometres.
 
@@ -49,7 +55,7 @@ from typing import (TYPE_CHECKING, Any, BinaryIO, Callable, Deque, Iterator, Lis
 if TYPE_CHECKING:
     import numpy
 
-__all__ = ["Box", "ClosedFault", "Fault", "FitFault", "MemoryFault", "Mesh", "RangeFault", "box", "micrometres", "open",
+__all__ = ["Box", "ClosedFault", "Fault", "FitFault", "FormatFault", "MemoryFault", "Mesh", "RangeFault", "box", "micrometres", "open",
            "open_mesh", "read"]
 
 Source = Union[str, "os.PathLike[str]", bytes, bytearray, memoryview, BinaryIO]
@@ -61,12 +67,14 @@ Unit = Literal["mm", "inch", "cm", "m"]
 Side = Union[int, float, str, Fraction]
 Pitch = Union[Side, Tuple[Side, Side]]
 Numbers = Optional[Sequence[int]]
+Arrays = Tuple["array.array[int]", "array.array[int]"]      # points and triangles, without rows
+Progress = Optional[Callable[[str], object]]
 
 FACTORS = [1000, 25400, 10000, 1000000]     # micrometres in each unit
 LINE = 256
 WORD = range(2**32)
 MOST_COORDINATE = 2**31 - 1     # more than any that a mesh may have, and as far as the library's type goes
-DONE, OUT_OF_RANGE, MEMORY, NO_ROOM, NOT_OPEN, NO_FIT = 0, 1, 6, 7, 8, 9
+DONE, OUT_OF_RANGE, NOT_READ, MEMORY, NO_ROOM, NOT_OPEN, NO_FIT = 0, 1, 3, 6, 7, 8, 9
 
 
 class Fault(Exception):
@@ -97,6 +105,10 @@ class ClosedFault(Fault, ValueError):
 
 class FitFault(Fault):
     """The part does not fit the canvas (status 9). The line has both sizes, and whether a quarter turn helps."""
+
+
+class FormatFault(Fault):
+    """An OBJ or a 3MF has what is not taken here (status 3). A program that converts it may take it."""
 
 
 class Box(NamedTuple):

@@ -223,8 +223,9 @@ def try_numbers(page):
 
 def try_settings(page):
     """Settings files of the printers that are known by name, and of other screens, are the command's."""
-    from stlslice_commands import printers, sl1
-    draw, known = random.Random(7), list(printers.printers().values())
+    from stlslice.printers import printers
+    from stlslice_commands import sl1
+    draw, known = random.Random(7), list(printers().values())
     every, wanted = [], []
     for _ in range(SETTINGS):
         printer = draw.choice([None, *known])
@@ -240,7 +241,7 @@ def try_settings(page):
         sliced = SimpleNamespace(given=given, layers=layers, lit=lit, millilitres=lambda _, volume=volume: volume)
         slow, job = draw.randint(0, layers), sl1.job_name("out of \u00e9.sl1")
         material = draw.choice(["", "  a\tb ", "Gr\u00fcn \x7f\u0085x", "a\ufeff b \ufeff"])
-        given.material = sl1.one_line(material)
+        given.material = sl1.NAME(material)
         texts = [sl1.settings(sliced, job, slow, sl1.print_time(given, layers, slow), sl1.time.gmtime(MOMENT)), sl1.profile(given)]
         wanted.append(["".join(f"{key} = {value}\n" for key, value in sorted(it.items())) for it in texts])
         row = printer and {"model": printer.model, "name": printer.name, "is_portrait": printer.is_portrait}

@@ -4,13 +4,14 @@ look up is not there."""
 import csv
 from fractions import Fraction
 from pathlib import Path
+from typing import Dict
 
 
 class Printer:
     """A screen as it is built in, how its images lie on it, and the exposures of one resin, in micrometres and seconds. A screen
     in `portrait` shows images that are turned by a quarter, so `canvas` and `pitch`, which are those of images, are turned too."""
 
-    def __init__(self, row):
+    def __init__(self, row: Dict[str, str]) -> None:
         self.model, self.name, self.material, self.source = (row[key] for key in ("model", "name", "material", "source"))
         self.columns, self.rows = int(row["columns"]), int(row["rows"])
         self.width, self.depth, self.height = (1000 * Fraction(row[key]) for key in ("width", "depth", "height"))
@@ -24,14 +25,14 @@ class Printer:
         self.fast_tilt, self.slow_tilt = float(row["fast_tilt"]), float(row["slow_tilt"])
 
 
-def printers():
+def printers() -> Dict[str, Printer]:
     """Each printer of the table by its model."""
     with Path(__file__).with_name("printers.csv").open(encoding="utf-8", newline="") as file:
         return {row["model"]: Printer(row) for row in csv.DictReader(file)}
 
 
-def listed():
-    """What `--printer help` prints."""
+def listed() -> str:
+    """The printers as `stlslice-sl1 --printer help` prints them."""
     lines = []
     for it in printers().values():
         sides = " x ".join(f"{float(side) / 1000:g}" for side in (it.width, it.depth, it.height))
