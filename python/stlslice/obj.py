@@ -4,10 +4,10 @@ import io
 import itertools
 import re
 from array import array
-from typing import BinaryIO, Iterator, List, Sequence, Tuple
+from typing import BinaryIO, Iterator, List, Tuple
 
 from . import FACTORS, NOT_READ, Arrays, Fault, FormatFault, Progress, Source, Triple, Unit, _bytes, _choice
-from .exact import EXACT, cross, dot, front, is_near, minus, number, refuse_if, rounded
+from .exact import cross, dot, front, in_micrometres, minus, refuse_if
 
 FLAT = 5  # micrometres by which a polygon may be off a plane, and off being convex
 CORNERS = 10_000  # of a face, at most
@@ -31,7 +31,7 @@ def read_obj(source: Source, unit: Unit = "mm", progress: Progress = None) -> Ar
     for at, (word, *words) in _lines_of(io.BytesIO(_bytes(source)), progress):
         try:
             if word == b"v":
-                points.extend(_coordinate(it, times) for it in words[:3])
+                points.extend([in_micrometres(it, times) for it in words[:3]])
                 refuse_if(len(words) < 3, "v has fewer than three numbers")
             elif word == b"f":
                 refuse_if(len(words) > CORNERS, f"a face has more than {CORNERS:,} corners")
@@ -48,24 +48,19 @@ def _lines_of(file: BinaryIO, progress: Progress) -> Iterator[Tuple[int, List[by
     held, size = bytearray(), 0
     for at, line in enumerate(itertools.chain(file, [b"\n"]), 1):
         size += len(line)
-        refuse_if(size > LINE, f"line {at:,} of the OBJ has more than {LINE:,} bytes")
-        line = line.partition(b"#")[0].rstrip()
-        if line.endswith(b"\\"):
-            held += line[:-1] + b" "
+        if size > LINE:
+            raise Fault(NOT_READ, f"line {at:,} of the OBJ has more than {LINE:,} bytes")
+        if b"#" in line:
+            line = line.partition(b"#")[0]
+        if b"\\" in line and line.rstrip().endswith(b"\\"):
+            held += line.rstrip()[:-1] + b" "
             continue
-        words, held, size = (bytes(held) + line).split(), bytearray(), 0
+        words, size = (bytes(held) + line).split() if held else line.split(), 0
+        held.clear()
         if words:
             yield at, words
         if progress and at % 4096 == 0:
             progress(f"line {at:,}")
-
-
-def _coordinate(word: bytes, times: int) -> int:
-    """A number in whole micrometres, of which its unit has so many."""
-    found = EXACT.multiply(number(word), times)
-    if not is_near(found):
-        raise Fault(NOT_READ, f"{front(word)!r} is out of range")
-    return rounded(found)
 
 
 def _index(word: bytes, count: int) -> int:
@@ -78,10 +73,12 @@ def _index(word: bytes, count: int) -> int:
     return at
 
 
-def _fan(points: "array[int]", corners: Sequence[int]) -> List[int]:
+def _fan(points: "array[int]", corners: List[int]) -> List[int]:
     """The triangles of a polygon that is flat and convex, from its first corner."""
+    if len(corners) == 3:
+        return corners
     refuse_if(len(corners) < 3, "a face has fewer than three corners")
-    if len(corners) > 3 and not _is_fan([tuple(points[3 * at:3 * at + 3]) for at in corners]):
+    if not _is_fan([tuple(points[3 * at:3 * at + 3]) for at in corners]):
         raise FormatFault(NOT_READ, "a face isn't flat and convex")
     return [at for pair in zip(corners[1:], corners[2:]) for at in (corners[0], *pair)]
 
