@@ -59,7 +59,7 @@ def newest(crate):
 
 
 def are_proved(listed):
-    """Whether `rt ci` has left each library, newer than its sources. What another command left has a stamp, which that judges."""
+    """Whether `rt ci` has left each library, newer than its sources. Beside what another command left lies a stamp; `rt check` judges it."""
     libraries = below(listed, CRATE)
     stamps = [f"{os.path.dirname(rlib(it))}/stamp" for it in libraries]
     return all(os.path.isdir(rlib(it)) for it in libraries) and not any(map(os.path.exists, stamps)) and all(

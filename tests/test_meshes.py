@@ -19,7 +19,7 @@ from parts import FACES, SIDES, binary, box, formats, lines, obj, points, text
 
 import stlslice
 from stlslice import exact, obj as objs, threemf
-from stlslice_commands import sl1, slicing  # noqa: F401, so that no run has to read it
+from stlslice_commands import sl1, slicing  # noqa: F401, read here once, and not in each run that is forked off
 
 SCREEN = ["--canvas", "160x120", "--pitch", "250", "--layer", "500"]
 LOW, HIGH = (0, 0, 0), (10, 20, 30)

@@ -37,24 +37,24 @@ def is_seen_from_above(name, base):
 
 def of_crates(files, base):
     """The steps for the crates that have these files: what each is, its command and its folder."""
-    rows = [line.partition(":") for line in text_of("crates.txt").splitlines() if not line.startswith("#")]
-    below = {head.split()[0]: tail.split() for head, _, tail in rows}
-    of_all = {"crates.txt", "HANDLES"} & {*files}
-    changed = [it for it in below if of_all or any(file.startswith(f"crates/{it}/") for file in files)]
+    below = {it.split()[0].strip(":"): it.partition(":")[2].split() for it in text_of("crates.txt").splitlines() if it[:1] != "#"}
+    def all_below(crate):  # directly or through others
+        return {it for low in below[crate] if low in below for it in {low, *all_below(low)}}
+    changed = [it for it in below if {"crates.txt", "HANDLES"} & {*files} or any(file.startswith(f"crates/{it}/") for file in files)]
     seen = {it.split("/")[1] for it in files if re.match(r"crates/\w+/(src|specs|proofs)/", it) and is_seen_from_above(it, base)}
-    names = [it for it in below if it in changed or seen & {*below[it]}]
+    names = [it for it in below if it in changed or seen & all_below(it)]
     print(f"changed crates: {' '.join(changed) or 'none'}; with those above that see the change: {' '.join(names) or 'none'}")
     bodies = {it.split("/")[1] for it in files if re.match(r"crates/\w+/src/", it)}
-    tests = [it for it in below if it.endswith("_tests") and it not in names and bodies & {*below[it]}]
-    tests.sort(key=lambda it: len(below[it]))
+    tests = [it for it in below if it.endswith("_tests") and it not in names and bodies & all_below(it)]
+    tests.sort(key=lambda it: len(all_below(it)))
     return ([(f"proofs, edits and tests of {' '.join(names)}", ["rt", "ci", *names], "")] * bool(names)
             + [(f"tests of {it}", ["rt", "try", "--test"], f"crates/{it}") for it in tests[:1]])
 
 
 def tests_of(file):
-    """The tests in tests/ that name a file, or are that file."""
-    name = os.path.basename(file)
-    named = re.compile(rf"(?<![\w-])({re.escape(name)}|{re.escape(re.sub('[.]py$', '', name))})(?![\w-])")
+    """The tests in tests/ that name a file, or are that file: a plain word names it with its folder, and a module if it is imported."""
+    name = os.path.basename(file) if re.search("[.-]", os.path.basename(file)) else "/".join(file.split("/")[-2:])
+    named = re.compile(rf"(?m)(?<![\w-]){re.escape(name)}(?![\w-])|^(?:from|import)\b.*\b{re.escape(name.replace('.py', ''))}\b")
     return {it for it in os.listdir("tests") if it.startswith("test_") and named.search(f"{it} {text_of(f'tests/{it}')}")}
 
 
