@@ -20,7 +20,7 @@ sys.path[:0] = [os.path.join(ROOT, it) for it in ("python", "commands", "tests")
 from parts import middle, text  # noqa: E402
 from stlslice_commands import faults, formats, parts  # noqa: E402
 import stlslice  # noqa: E402
-from stlslice.shells import facets_of as facets_by  # noqa: E402
+from stlslice import shells  # noqa: E402
 
 PACKAGES = "prusa-slicer assimp-testmodels cura libcgal-demo geomview gmsh-doc openscad".split()
 WHY = {"open edge": "open", "not STL": "other kind", "is no text": "no text", "no pixel is lit": "dark", "no facet": "no facets"}
@@ -47,7 +47,7 @@ def facets_of(data, kind):
     """The facets of a part, but for degenerate ones, in micrometres; or none if it can't be read."""
     try:
         arrays = parts.arrays_of(kind, data, argparse.Namespace(part="-", unit="mm")) if kind else None
-        found = facets_by(*arrays) if arrays else stlslice.read(data)
+        found = shells.facets_of(*arrays) if arrays else stlslice.read(data)
         found = found.tolist() if hasattr(found, "tolist") else found
         return [corners for corners in ([tuple(it) for it in facet] for facet in found) if len(set(corners)) == 3]
     except (faults.Refused, stlslice.Fault):

@@ -69,7 +69,7 @@ SPELLED = {
         *((f"completions/stlslice-{it}.fish", "Threads of the slicer, 1 to {}'") for it in ("sl1", "page"))],
     "micro_num::WORD_LIMIT": [
         ("docs/formats.md", "At most {} bytes."), ("docs/refused.md", "{} bytes"),
-        ("python/stlslice/exact.py", "LONGEST = {} # bytes of a number")],
+        ("python/stlslice/_exact.py", "LONGEST = {} # bytes of a number")],
     "stl_text::WORD_FRONT": [
         ("docs/decisions/front-of-a-word.md", "keeps the first {} bytes of such a word"),
         ("docs/usage.md", "holds the first {} bytes of a word")],

@@ -18,7 +18,7 @@ from measure import exit_status
 from parts import FACES, SIDES, binary, box, formats, lines, obj, points, text
 
 import stlslice
-from stlslice import exact, obj as objs, threemf
+from stlslice import _exact, obj as objs, threemf
 from stlslice_commands import sl1, slicing  # noqa: F401, read here once, and not in each run that is forked off
 
 SCREEN = ["--canvas", "160x120", "--pitch", "250", "--layer", "500"]
@@ -72,7 +72,7 @@ def box_of(found):
     places, corners = found
     sides = [places[k::3] for k in range(3)]
     triangles = [[tuple(places[3 * at:3 * at + 3]) for at in corners[k:k + 3]] for k in range(0, len(corners), 3)]
-    volume = sum(exact.dot(exact.cross(a, b), c) for a, b, c in triangles)
+    volume = sum(_exact.dot(_exact.cross(a, b), c) for a, b, c in triangles)
     return [min(side) for side in sides], [max(side) for side in sides], len(triangles), volume
 
 
@@ -149,7 +149,7 @@ class Objs(Case):
                            *((f"v 0 0 0\nf 1 1 {at}", f"2 of the OBJ: there is no point '{at}'")
                              for at in ("2", "0", "-2", "+1", "1.5", "x", "1_0", "1/x", "\u0661"))):
             same(refusal(read_obj, body), f"Fault: line {line}", body[:40])
-        same(refusal(read_obj, "v 0 0 0\ncurv 0 1 1"), "FormatFault: line 2 of the OBJ: curv isn't taken", "a curve")
+        same(refusal(read_obj, "v 0 0 0\ncurv 0 1 1"), "FormatFault: line 2 of the OBJ: 'curv' isn't taken", "a curve")
 
 
 class ThreeMfs(Case):
@@ -374,7 +374,7 @@ class Commands(Case):
         self.room.put("part.3mf", packed(model(words='requiredextensions="p"')))
         self.room.put("open.obj", obj(LOW, HIGH, FACES[1:]))
         for status, name, line in (
-                (3, "part.obj", "%s: line 2 of the OBJ: curv isn't taken; convert it: assimp export part.obj part.stl"),
+                (3, "part.obj", "%s: line 2 of the OBJ: 'curv' isn't taken; convert it: assimp export part.obj part.stl"),
                 (3, "part.3mf",
                  "%s: the 3MF needs the extensions 'p'; convert it: prusa-slicer --export-stl --output part.stl part.3mf"),
                 (4, "open.obj", "stlslice: open edge 0 0 0 to 0 20000 0 there 0 back 1")):

@@ -61,7 +61,7 @@ def refused(made, status, line):
     try:
         made()
     except (Refused, stlslice.Fault) as fault:
-        return same((fault.status, fault.line if isinstance(fault, Refused) else str(fault)), (status, line), "refusal")
+        return same((fault.status, str(fault)), (status, line), "refusal")
     raise AssertionError(f"not refused: {line}")
 
 

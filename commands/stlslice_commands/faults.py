@@ -20,6 +20,7 @@ class Refused(Exception):
     """What ends a command: its own line, or None, the status, and what the library or another program said before, if anything."""
 
     def __init__(self, line, status=1, told=""):
+        super().__init__(line)
         self.line, self.status, self.told = line, status, told
 
 

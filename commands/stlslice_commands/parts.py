@@ -31,7 +31,7 @@ class Part:
             from stlslice import shells  # only here, since each start reads what it imports anew
         if self.shells:
             facets = shells.facets_of(*arrays) if arrays else self.asked(partial(stlslice.read, data, given.unit))[0]
-            points, groups = taken(shells.split, facets)
+            points, groups = read_by(shells.split, facets)
             refuse_if(not groups, NO_FACETS)
             # an open edge is told as it is without the two facets that are put to each group
             self.asked(*(partial(stlslice.open_mesh, points, it[:-6], **ONE_VOXEL) for it in groups))
@@ -114,14 +114,14 @@ def arrays_of(kind, data, given):
     refuse_if(kind == "3MF" and given.unit != "mm", "a 3MF has a unit of its own: leave out --unit", 2)
     if kind == "OBJ":
         from stlslice.obj import read_obj  # only here, since each start reads what it imports anew
-        return taken(read_obj, data, given.unit, advice=advice)
+        return read_by(read_obj, data, given.unit, advice=advice)
     from stlslice.threemf import FACETS, read_3mf
     # of more facets the library takes no mesh, but shells of a larger one
-    return taken(read_3mf, data, most=FACETS * (16 if getattr(given, "shells", False) else 1), advice=advice)
+    return read_by(read_3mf, data, most=FACETS * (16 if getattr(given, "shells", False) else 1), advice=advice)
 
 
-def taken(read, *words, advice=None, **more):
-    """What a reader of the module returns. How far it is is shown; to what it doesn't take the advice is added."""
+def read_by(read, *words, advice="", **more):
+    """What a reader of the module returns. How far it is is shown. Its fault ends the command, with the advice if it may be right."""
     try:
         return read(*words, progress=lambda it: Progress.show(f"reading: {it}"), **more)
     except stlslice.Fault as fault:

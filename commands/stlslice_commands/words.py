@@ -5,6 +5,7 @@ import os
 import re
 import sys
 from fractions import Fraction
+from importlib.util import find_spec
 
 from .faults import Refused
 
@@ -58,7 +59,9 @@ class Listing(argparse.Action):
     """`--printer help` lists the printers and ends; another word has to be a model of the list."""
 
     def __call__(self, parser, given, word, option=None):
-        from stlslice.printers import listed, printers  # only here, since each start reads what it imports anew
+        # only here, since each start reads what it imports anew; and the table alone, since the module needs its library
+        sys.path.append(find_spec("stlslice").submodule_search_locations[0])
+        from printers import listed, printers
         if word == "help":
             print(listed(), end="")
             parser.exit()

@@ -22,11 +22,12 @@ quarters, and its images are what the screen shows:
     for png in mesh.pngs(workers=4):
         ...
 
-What files and parts of other kinds take is in modules of their own:
+Other files, larger parts and printers have modules of their own:
 
     stlslice.obj.read_obj, stlslice.threemf.read_3mf    # points and triangles of an OBJ or a 3MF, for `open_mesh`
     stlslice.shells.split                               # a part of more facets than a mesh may have, as several meshes
     stlslice.images.joined                              # their PNGs as one
+    stlslice.printers.printers                          # the screens of printers, by their models
 
 A mask is laid out as the program's image: its first row is that of the greatest y. `probe` counts rows from the least y
 up, so the pixel of its column i and row j is `mask[rows - 1 - j, i]`, or `mask[::-1][j, i]`. Lengths are whole micrometres.
@@ -79,7 +80,7 @@ DONE, OUT_OF_RANGE, NOT_READ, MEMORY, NO_ROOM, NOT_OPEN, NO_FIT = 0, 1, 3, 6, 7,
 
 class Fault(Exception):
     """Why a call was refused. If file, mesh or grid is at fault, or memory ran out, `status` is 3 to 6. It and `line` are then
-    the program's, but for the line of a binary STL or a canvas. Else they are the library's own: 1 if a number is out of its
+    the program's, but for the line of a binary STL, an OBJ, a 3MF, a shell or a canvas. Else they are the library's own: 1 if a number is out of its
     range or outside the grid, 8 if the mesh was closed, 9 if the part does not fit the canvas."""
 
     def __init__(self, status: int, text: str) -> None:

@@ -7,7 +7,7 @@ from array import array
 from typing import BinaryIO, Iterator, List, Tuple
 
 from . import FACTORS, NOT_READ, Arrays, Fault, FormatFault, Progress, Source, Triple, Unit, _bytes, _choice
-from .exact import cross, dot, front, in_micrometres, minus, refuse_if
+from ._exact import cross, dot, front, in_micrometres, minus, refuse_if
 
 FLAT = 5  # micrometres by which a polygon may be off a plane, and off being convex
 CORNERS = 10_000  # of a face, at most
@@ -37,7 +37,7 @@ def read_obj(source: Source, unit: Unit = "mm", progress: Progress = None) -> Ar
                 refuse_if(len(words) > CORNERS, f"a face has more than {CORNERS:,} corners")
                 triangles.extend(_fan(points, [_index(it, len(points) // 3) for it in words]))
             elif word not in IGNORED:
-                raise FormatFault(NOT_READ, f"{front(word)} isn't taken")
+                raise FormatFault(NOT_READ, f"{front(word)!r} isn't taken")
         except Fault as fault:
             raise type(fault)(NOT_READ, f"line {at:,} of the OBJ: {fault}") from None
     return points, triangles

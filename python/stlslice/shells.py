@@ -14,21 +14,22 @@ Numbers = Sequence[int]
 
 
 def split(facets: Iterable[Any], progress: Progress = None) -> "Tuple[array[int], List[array[int]]]":
-    """The points of a part, each once, and groups of its triangles, of which `open_mesh` takes each with these points. Together
+    """The points of a part, and groups of its triangles, of which `open_mesh` takes each with these points. Together
     the groups are all of the part, and each has whole shells, in the order of their facets. Facets belong to one shell if they
     share a corner.
 
     `facets` are as `read` returns them, of any number: for each its three corners, and for each of these three whole
-    micrometres. There is no group if there are none. `progress`, if given, is called now and then with how far it is, as
+    micrometres. Without facets there is no group. `progress`, if given, is called now and then with how far it is, as
     `facet 65,536 of 2,000,000`.
 
     The last two triangles of each group are put to it, so that all groups stand in one place of a canvas: one reaches through
     the part's box, and the other is the same turned round, so no pixel is another. `images.joined` makes the part's images of
-    those of the groups. Raises a `Fault` of status 3 if a shell has more facets than a mesh may have with these two.
+    those of the groups. Raises a `Fault` of status 3 if a shell has more facets than a mesh may have with these two,
+    and `ValueError` or `OverflowError` if the facets are not as `read` returns them.
     """
     number_of: Dict[Tuple[int, ...], int] = {}
     blocks = _in_blocks(facets, progress)
-    triangles = array("I", (number_of.setdefault(tuple(it), len(number_of)) for facet in blocks for it in facet))
+    triangles = array("I", (number_of.setdefault((x, y, z), len(number_of)) for a, b, c in blocks for x, y, z in (a, b, c)))
     if not triangles:
         return array("i"), []
     points, above = array("i", itertools.chain.from_iterable(number_of)), array("l", range(len(number_of)))

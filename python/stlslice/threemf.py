@@ -1,6 +1,5 @@
 """3MF, by its core specification 1: the points and triangles of what a file has built."""
 
-import decimal
 import functools
 import io
 import re
@@ -8,12 +7,11 @@ import struct
 import zipfile
 import zlib
 from array import array
-from decimal import Decimal
-from typing import IO, Any, Callable, Dict, List, Optional, Tuple
+from typing import IO, Callable, Dict, Iterator, List, Optional, Sequence, Tuple
 from xml.parsers import expat
 
 from . import NOT_READ, Arrays, Fault, FormatFault, Progress, Source, _bytes
-from .exact import EXACT, cross, dot, is_near, number, refuse_if, rounded
+from ._exact import FARTHEST, cross, dot, number, refuse_if, rounded
 
 FACETS = 1_048_576  # of a mesh, at most
 CORE = "http://schemas.microsoft.com/3dmanufacturing/core/2015/02 "
@@ -26,16 +24,18 @@ NO_BODY = re.compile(rb"ParameterModifier|NegativeVolume|Support(?:Enforcer|Bloc
                      rb"modifier_part|negative_part|support_(?:enforcer|blocker)")
 CONFIGS = ("Metadata/Slic3r_PE_model.config", "Metadata/model_settings.config")
 BLOCK = 1 << 16  # bytes of XML that are read at once
-LARGEST, SMALL, RATIO = 1 << 28, 1 << 24, 100  # bytes of an entry; above SMALL it has at most RATIO times its packed bytes
+LARGEST, SMALL, RATIO = 1 << 28, 1 << 20, 100  # bytes of an entry; above SMALL it has at most RATIO times its packed bytes
+CONFIG = 1 << 24  # bytes of such a file
 WORD = 1 << 20  # bytes of XML without an event, and of the relationships
 ENTRIES = 10_000  # of a zip
 NESTED, DEEPEST = 64, 16  # elements of XML, and components, in each other
+DECIMALS = 150  # of a number, or of transforms in each other
 TRANSFORM = 40  # bytes of a number of a transform
 PLACED = 100  # facets that take as long as placing an object
 DAMAGED = (zipfile.BadZipFile, zlib.error, struct.error, expat.ExpatError, EOFError, RuntimeError, ValueError, LookupError)
 
 Words = Dict[str, str]
-Columns = List[List[Decimal]]
+Transform = Tuple[List[List[int]], int]  # three rows of four whole numbers, and how many of their digits are decimals
 
 
 def read_3mf(source: Source, progress: Progress = None, most: int = FACETS) -> Arrays:
@@ -48,18 +48,25 @@ def read_3mf(source: Source, progress: Progress = None, most: int = FACETS) -> A
     Raises a `Fault` of status 3 if the file is damaged, hostile or has more than `most` facets. It is a `FormatFault` if the file
     may be right: if it needs an extension, or has volumes that are none of the part, such as modifiers.
     """
-    data, points, triangles, model = _bytes(source), array("i"), array("I"), _Model(most)
+    points, triangles = array("i"), array("I")
+    for size in _reading(_bytes(source), _Model(most), points, triangles):
+        if progress:
+            progress(f"{size >> 20} MB")
+    return points, triangles
+
+
+def _reading(data: bytes, model: "_Model", points: "array[int]", triangles: "array[int]") -> Iterator[int]:
+    """Reads a 3MF, and tells again and again how many bytes of its model are read."""
     try:
         refuse_if(not zipfile.is_zipfile(io.BytesIO(data)), "it is cut, or no zip")
         # with these bytes each entry is listed, and the list is held whole
         refuse_if(data.count(b"PK\1\2") > ENTRIES, f"it has more than {ENTRIES:,} entries")
-        with zipfile.ZipFile(io.BytesIO(data)) as archive, decimal.localcontext(EXACT):
+        with zipfile.ZipFile(io.BytesIO(data)) as archive:
             for name in CONFIGS:
-                if name in archive.namelist() and NO_BODY.search(_opened(archive, name, SMALL).read()):
+                if name in archive.namelist() and NO_BODY.search(_opened(archive, name, CONFIG).read()):
                     raise FormatFault(NOT_READ, "the 3MF has volumes that are none of the part, such as modifiers")
-            _feed(_opened(archive, _model_of(archive)), model.start, model.end, progress)
-            model.items.place([[model.unit * (k == j) for k in range(4)] for j in range(3)], points, triangles)
-        return points, triangles
+            yield from _fed(_opened(archive, _model_of(archive)), model.start, model.end)
+            model.items.place(([[model.unit * (k == j) for k in range(4)] for j in range(3)], 0), points, triangles)
     except FormatFault:
         raise
     except (Fault, *DAMAGED) as fault:
@@ -75,7 +82,8 @@ def _model_of(archive: zipfile.ZipFile) -> str:
         if words.get("Type") == MODEL:
             found.append(words["Target"].lstrip("/"))
 
-    _feed(_opened(archive, "_rels/.rels", WORD), start)
+    for _ in _fed(_opened(archive, "_rels/.rels", WORD), start):
+        pass
     refuse_if(len(found) != 1, "its relationships name no model, or several")
     return found[0]
 
@@ -92,9 +100,9 @@ def _opened(archive: zipfile.ZipFile, name: str, most: int = LARGEST) -> IO[byte
     return archive.open(it)
 
 
-def _feed(stream: IO[bytes], start: Callable[[str, Words], None], end: Callable[[str], None] = lambda name: None,
-          progress: Progress = None) -> None:
-    """Calls `start` and `end` for each element of the XML. A document type, and with it entities, is refused."""
+def _fed(stream: IO[bytes], start: Callable[[str, Words], None], end: Callable[[str], None] = lambda name: None) -> Iterator[int]:
+    """Calls `start` and `end` for each element of the XML, and tells how many bytes are read. A document type, and with it
+    entities, is refused."""
     above: List[str] = []
     count, parser = 0, expat.ParserCreate(namespace_separator=" ")
 
@@ -109,8 +117,7 @@ def _feed(stream: IO[bytes], start: Callable[[str, Words], None], end: Callable[
         count += len(block)
         parser.Parse(block)
         refuse_if(count - parser.CurrentByteIndex > WORD, f"its XML has a word of more than {WORD:,} bytes")
-        if progress:
-            progress(f"{count >> 20} MB")
+        yield count
     parser.Parse(b"", True)
 
 
@@ -118,7 +125,7 @@ class _Model:
     """The objects of a 3MF's model and what is to be built of them, of at most so many facets."""
 
     def __init__(self, most: int) -> None:
-        self.most, self.unit, self.object, self.items = most, 0, None, _Object("", "model")
+        self.most, self.unit, self.points, self.object, self.items = most, 0, 0, None, _Object("", "model")
         self.objects: Dict[str, _Object] = {}
 
     def start(self, name: str, words: Words) -> None:
@@ -133,8 +140,9 @@ class _Model:
             count = it.lines.count(b"\n")
             is_wrong = max(it.triangles, default=0) >= max(1, count)
             refuse_if(is_wrong, f"object {it.id} has a triangle with a point that it hasn't")
-            # each takes time, and cost counts triangles alone
             refuse_if(count > len(it.triangles) + PLACED, f"object {it.id} has {count:,} points, more than its triangles can have")
+            it.points += count
+            self.points += count
 
     def take_model(self, words: Words) -> None:
         unit, extensions = words.get("unit", "millimeter"), words.get("requiredextensions", "")
@@ -170,49 +178,97 @@ class _Model:
         refuse_if(not found or found is self.object, f"there is no object {id[:20]} before what refers to it")
         if found.type not in ("model", "solidsupport", "support"):
             raise FormatFault(NOT_READ, f"the 3MF builds an object of the type {found.type[:20]}")
-        holder.components.append((found, _columns_of(words.get("transform", IDENTITY))))
+        holder.components.append((found, _transform_of(words.get("transform", IDENTITY))))
         holder.cost += PLACED + found.cost
+        holder.points += found.points
         holder.depth = max(holder.depth, found.depth + 1)
         refuse_if(holder.cost > self.most, f"it has more than {self.most:,} facets, or too many objects")
+        refuse_if(holder.points > self.most + self.points, f"its objects are placed so often that they have {holder.points:,} points")
         refuse_if(holder.depth > DEEPEST, "its components are too deep in each other")
 
 
 class _Object:
     """A mesh, of points as texts, and other objects with their transforms. `cost` counts triangles, and PLACED for each object in
-    it, each as often as it is placed."""
+    it, each as often as it is placed, and `points` counts points so."""
 
     def __init__(self, id: str, type: str) -> None:
-        self.id, self.type, self.cost, self.depth = id, type, 0, 1
+        self.id, self.type, self.cost, self.points, self.depth = id, type, 0, 0, 1
         self.lines, self.triangles = bytearray(), array("I")
-        self.components: List[Tuple[_Object, Columns]] = []
+        self.components: List[Tuple[_Object, Transform]] = []
 
-    def place(self, columns: Columns, points: "array[int]", triangles: "array[int]") -> None:
-        """Adds the points and the triangles, by a transform to micrometres. A mirror image is turned inside out again."""
-        first, corners = len(points) // 3, array("I", self.triangles)
+    @functools.cached_property
+    def numbers(self) -> Tuple[Sequence[int], int]:
+        """The coordinates of all points as whole numbers, and how many of their digits are decimals."""
+        digits, decimals = [], array("H")
         for line in io.BytesIO(self.lines):
-            place = list(map(number, line.split()))
-            point = [dot(it, place) + it[3] for it in columns]
-            refuse_if(not all(map(is_near, point)), f"object {self.id} reaches beyond 128 m from the origin")
-            points.extend(map(rounded, point))
-        if _volume(columns) < 0:
+            for word in line.split():
+                own = number(word)
+                digits.append(own[0])
+                decimals.append(own[1])
+        most = max(decimals, default=0)
+        _refuse_decimals(most)
+        for at, own in enumerate(decimals):
+            if own < most:
+                digits[at] *= 10 ** (most - own)
+        try:
+            return array("q", digits), most
+        except OverflowError:
+            return digits, most
+
+    def place(self, transform: Transform, points: "array[int]", triangles: "array[int]") -> None:
+        """Adds the points and the triangles, by a transform to micrometres. A mirror image is turned inside out again."""
+        (rows, decimals), (flat, own) = transform, self.numbers
+        first, corners = len(points) // 3, array("I", self.triangles)
+        block, one = array("i", bytes(4 * len(flat))), 10 ** (decimals + own)
+        for k, row in enumerate(rows):
+            a, b, c, d = (2 * it for it in row)
+            d *= 10 ** own
+            places = [rounded(a * x + b * y + c * z + d, one) for x, y, z in zip(flat[::3], flat[1::3], flat[2::3])]
+            is_far = places and not -FARTHEST <= min(places) <= max(places) <= FARTHEST
+            refuse_if(is_far, f"object {self.id} reaches beyond 128 m from the origin")
+            block[k::3] = array("i", places)
+        points.extend(block)
+        if _volume(rows) < 0:
             corners[1::3], corners[2::3] = corners[2::3], corners[1::3]
-        triangles.extend(first + at for at in corners)
+        triangles.extend([first + at for at in corners])
         for other, within in self.components:
-            rows = list(enumerate(zip(*within)))
-            other.place([[dot(row, it) + (it[3] if k == 3 else 0) for k, row in rows] for it in columns], points, triangles)
+            other.place(_joined(transform, within), points, triangles)
+
+
+def _joined(outer: Transform, inner: Transform) -> Transform:
+    """The transform that applies the inner one first."""
+    (rows, decimals), (others, own) = outer, inner
+    columns = list(enumerate(zip(*others)))
+    found = [[dot(column, row) + (row[3] * 10 ** own if k == 3 else 0) for k, column in columns] for row in rows]
+    decimals += own
+    while decimals and not any(it % 10 for row in found for it in row):
+        found, decimals = [[it // 10 for it in row] for row in found], decimals - 1
+    _refuse_decimals(decimals)
+    return found, decimals
 
 
 @functools.lru_cache(maxsize=256)
-def _columns_of(text: str) -> Columns:
-    """The three columns of a transform. By the first three numbers of each x, y and z are multiplied, and the last is added."""
+def _transform_of(text: str) -> Transform:
+    """A transform, by rows: by the first three numbers of each x, y and z are multiplied, and the last is added."""
     words = text.encode().split()
     is_wrong = len(words) != 12 or max(map(len, words)) > TRANSFORM
     refuse_if(is_wrong, f"a transform hasn't twelve numbers of at most {TRANSFORM} bytes")
-    found = [list(map(number, words[k::3])) for k in range(3)]
-    refuse_if(not _volume(found), "a transform makes an object flat")
+    found = [number(it) for it in words]
+    decimals = max(own for _, own in found)
+    _refuse_decimals(decimals)
+    digits = [it * 10 ** (decimals - own) for it, own in found]
+    rows = [digits[k::3] for k in range(3)]
+    refuse_if(not _volume(rows), "a transform makes an object flat")
+    return rows, decimals
+
+
+def _refuse_decimals(count: int) -> None:
+    """Refuses more decimals than any program writes, since they take long."""
+    if count > DECIMALS:
+        raise FormatFault(NOT_READ, f"the 3MF has numbers, or transforms in each other, of {count} decimals")
+
+
+def _volume(rows: List[List[int]]) -> int:
+    """It is 0 if a transform makes things flat, and below 0 if it makes mirror images."""
+    found: int = dot(cross(*rows[:2]), rows[2])
     return found
-
-
-def _volume(columns: Columns) -> Any:
-    """By how much a transform multiplies volumes: below 0 if it makes mirror images."""
-    return dot(cross(*columns[:2]), columns[2])
