@@ -48,6 +48,7 @@ def holding(number, components):
 MESH = mesh(LOW, HIGH)
 BOX = f'<object id="1">{MESH}</object>'
 VERTEX = '<vertex x="1" y="2" z="3"/>'
+TRIANGLE = '<triangle v1="0" v2="1" v3="2"/>'
 
 
 def model(objects=BOX, items='<item objectid="1"/>', words="", head=""):
@@ -246,6 +247,9 @@ def hostile_models():
                           ("spaces beyond", " " * (1 << 25))):
         yield name, model().replace("<resources>", "<resources>" + filling)
     yield "items", model(items=500_000 * '<item objectid="1"/>')
+    for count, faces, items in ((30_000, 10_000, 12), (12_000, 12_000, 43), (3000, 1000, 180)):
+        often = f"<mesh><vertices>{count * VERTEX}</vertices><triangles>{faces * TRIANGLE}</triangles></mesh>"
+        yield f"{count} points {items} times", model(f'<object id="1">{often}</object>', items * placed(moved_by(1)))
     for count, items in ((150_000, 1), (50_000, 1000)):
         cloud = f"<mesh><vertices>{count * VERTEX}</vertices><triangles/></mesh>"
         yield f"{count} points", model(f'<object id="1">{cloud}</object>', items * '<item objectid="1"/>')
@@ -301,6 +305,25 @@ def forked(room, *words):
     status = exit_status(os.waitpid(child, 0)[1])
     with open(fault) as said:
         return status, said.read()
+
+
+class Readers(Case):
+    def test_they_take_files_and_tell_how_far_they_are(self):
+        for read, body, told in ((objs.read_obj, obj(LOW, HIGH).encode() + 4100 * b"\ng x", "line 4,096"),
+                                 (threemf.read_3mf, packed(model()), "0 MB")):
+            path, lines = self.room.put("part", body), []
+            with open(path, "rb") as file:
+                found = [read(it, progress=lines.append) for it in (body, path, file)]
+            same(found, [read(body)] * 3, "of bytes, a path and a file")
+            same(lines, [told] * 3, "how far it is")
+            with self.assertRaisesRegex(ValueError, "the caller's"):
+                read(body, progress=lambda it: int("the caller's"))
+
+    def test_a_3mf_has_at_most_so_many_facets(self):
+        boxes = packed(model(items=3 * placed(moved_by(1))))
+        same(len(threemf.read_3mf(boxes, most=3 * (threemf.PLACED + 12))[1]), 3 * 36, "corners of triangles")
+        with self.assertRaisesRegex(stlslice.Fault, "more than 335 facets"):
+            threemf.read_3mf(boxes, most=3 * (threemf.PLACED + 12) - 1)
 
 
 class HostileFiles(Case):

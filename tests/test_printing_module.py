@@ -13,6 +13,7 @@ import re
 import subprocess
 import sys
 import time
+import zlib
 from fractions import Fraction
 from unittest import mock
 
@@ -96,6 +97,13 @@ class Module(Case):
         dark, lit = (png_of_p4((64, 9, rows_of(kind, 64, 9, draw)), 8) for kind in ("dark", "lit"))
         for pngs, areas, wanted in (([dark, lit], [0, 576], (lit, 576)), ([dark, dark], [0, 0], (dark, 0))):
             same(images.joined(pngs, areas, "evenodd"), wanted, "one that alone is lit")
+        other = png_of_p4((64, 8, rows_of("lit", 64, 8, draw)), 8)
+        for pngs, rule in (([], "nonzero"), ([lit, other], "nonzero"), ([lit, lit], "odd")):
+            with self.assertRaises(stlslice.RangeFault, msg=f"{len(pngs)} images, {rule}"):
+                images.joined(pngs, [1] * len(pngs), rule)
+        plain = images._with_data(lit, zlib.compress(zlib.decompress(lit[images.DATA]), 0))
+        small = images.smallest(plain)
+        same((pixels_of_png(small), len(small) < len(plain)), (pixels_of_png(lit), True), "the same pixels in fewer bytes")
 
     def test_shells_are_kept_together(self):
         """The facets of each group are those of its shells, in their order. Two more reach through the part's box."""
@@ -119,6 +127,11 @@ class Module(Case):
             refused(lambda: shells.split(mixed), 3,
                     "the part has a shell of 12 facets, and at most 11 are taken: export it coarser")
         same([list(it) for it in shells.split([])], [[], []], "points and groups of no facet")
+        for facets in ([((0, 0), (1, 1), (2, 2))], [((0, 0, 0), (1, 1, 1))], [((0, 0, 0), (1, 1, 1), (2, 2, 1 << 40))]):
+            with self.assertRaises((ValueError, OverflowError), msg=str(facets)):
+                shells.split(facets)
+        same(list(shells.facets_of([*range(12)], [3, 0, 1])), [[[9, 10, 11], [0, 1, 2], [3, 4, 5]]], "a facet of arrays")
+        same(shells.box_of([*range(12)], [3, 1, 1]), (1, (3, 4, 5), (9, 10, 11)), "the box of a facet of arrays")
         # long strips whose facets stand in any order, so that pieces of a strip that were found apart are joined later
         strips = [[((k, 1, 9 * strip), (k, 0, 9 * strip), (k + 1, 0, 9 * strip)) for k in range(300)] for strip in range(3)]
         mixed = [facet for strip in strips for facet in strip]

@@ -183,7 +183,7 @@ class _Model:
         holder.points += found.points
         holder.depth = max(holder.depth, found.depth + 1)
         refuse_if(holder.cost > self.most, f"it has more than {self.most:,} facets, or too many objects")
-        refuse_if(holder.points > self.most + self.points, f"its objects are placed so often that they have {holder.points:,} points")
+        refuse_if(holder.points > self.most // 2 + self.points, f"its objects are placed so often that they have {holder.points:,} points")
         refuse_if(holder.depth > DEEPEST, "its components are too deep in each other")
 
 
