@@ -247,7 +247,7 @@ def hostile_models():
                           ("spaces beyond", " " * (1 << 25))):
         yield name, model().replace("<resources>", "<resources>" + filling)
     yield "items", model(items=500_000 * '<item objectid="1"/>')
-    for count, faces, items in ((30_000, 10_000, 12), (12_000, 12_000, 43), (3000, 1000, 180)):
+    for count, faces, items in ((30_000, 10_000, 12), (12_000, 12_000, 85), (3000, 1000, 180)):
         often = f"<mesh><vertices>{count * VERTEX}</vertices><triangles>{faces * TRIANGLE}</triangles></mesh>"
         yield f"{count} points {items} times", model(f'<object id="1">{often}</object>', items * placed(moved_by(1)))
     for count, items in ((150_000, 1), (50_000, 1000)):
