@@ -14,9 +14,8 @@ Numbers = Sequence[int]
 
 
 def split(facets: Iterable[Any], progress: Progress = None) -> "Tuple[array[int], List[array[int]]]":
-    """The points of a part, and groups of its triangles, of which `open_mesh` takes each with these points. Together
-    the groups are all of the part, and each has whole shells, in the order of their facets. Facets belong to one shell if they
-    share a corner.
+    """The points of a part, and groups of its triangles; `open_mesh` takes each group with these points. Together the groups are
+    all of the part. Each has whole shells, in the order of their facets. Facets belong to one shell if they share a corner.
 
     `facets` are as `read` returns them, of any number: for each its three corners, and for each of these three whole
     micrometres. Without facets there is no group. `progress`, if given, is called now and then with how far it is, as
@@ -24,8 +23,10 @@ def split(facets: Iterable[Any], progress: Progress = None) -> "Tuple[array[int]
 
     The last two triangles of each group are put to it, so that all groups stand in one place of a canvas: one reaches through
     the part's box, and the other is the same turned round, so no pixel is another. `images.joined` makes the part's images of
-    those of the groups. Raises a `Fault` of status 3 if a shell has more facets than a mesh may have with these two,
-    and `ValueError` or `OverflowError` if the facets are not as `read` returns them.
+    those of the groups.
+
+    Raises a `Fault` of status 3 if a shell has more facets than a mesh may have with these two, and `ValueError` or
+    `OverflowError` if the facets are not as `read` returns them.
     """
     number_of: Dict[Tuple[int, ...], int] = {}
     blocks = _in_blocks(facets, progress)

@@ -24,8 +24,8 @@ NO_BODY = re.compile(rb"ParameterModifier|NegativeVolume|Support(?:Enforcer|Bloc
                      rb"modifier_part|negative_part|support_(?:enforcer|blocker)")
 CONFIGS = ("Metadata/Slic3r_PE_model.config", "Metadata/model_settings.config")
 BLOCK = 1 << 16  # bytes of XML that are read at once
-LARGEST, SMALL, RATIO = 1 << 28, 1 << 20, 100  # bytes of an entry; above SMALL it has at most RATIO times its packed bytes
 CONFIG = 1 << 24  # bytes of such a file
+LARGEST, SMALL, RATIO = 1 << 28, 1 << 20, 100  # bytes of an entry; above SMALL it has at most RATIO times its packed bytes
 WORD = 1 << 20  # bytes of XML without an event, and of the relationships
 ENTRIES = 10_000  # of a zip
 NESTED, DEEPEST = 64, 16  # elements of XML, and components, in each other
@@ -63,7 +63,7 @@ def _reading(data: bytes, model: "_Model", points: "array[int]", triangles: "arr
         refuse_if(data.count(b"PK\1\2") > ENTRIES, f"it has more than {ENTRIES:,} entries")
         with zipfile.ZipFile(io.BytesIO(data)) as archive:
             for name in CONFIGS:
-                if name in archive.namelist() and NO_BODY.search(_opened(archive, name, CONFIG).read()):
+                if name in archive.namelist() and NO_BODY.search(_opened(archive, name, CONFIG, CONFIG).read()):
                     raise FormatFault(NOT_READ, "the 3MF has volumes that are none of the part, such as modifiers")
             yield from _fed(_opened(archive, _model_of(archive)), model.start, model.end)
             model.items.place(([[model.unit * (k == j) for k in range(4)] for j in range(3)], 0), points, triangles)
@@ -88,12 +88,12 @@ def _model_of(archive: zipfile.ZipFile) -> str:
     return found[0]
 
 
-def _opened(archive: zipfile.ZipFile, name: str, most: int = LARGEST) -> IO[bytes]:
+def _opened(archive: zipfile.ZipFile, name: str, most: int = LARGEST, small: int = SMALL) -> IO[bytes]:
     """An entry's bytes. One that is too large, or packed far better than a mesh is, is refused."""
     entries = [it for it in archive.infolist() if it.filename == name]
     refuse_if(len(entries) != 1, f"it has {name} {len(entries)} times")
     it, = entries
-    refuse_if(it.file_size > min(most, max(SMALL, RATIO * it.compress_size)),
+    refuse_if(it.file_size > min(most, max(small, RATIO * it.compress_size)),
               f"{name} is too large: {it.compress_size:,} bytes that unpack to {it.file_size:,}")
     is_other = it.compress_type not in (zipfile.ZIP_STORED, zipfile.ZIP_DEFLATED)
     refuse_if(is_other, f"{name} is packed in another way than by deflate")
