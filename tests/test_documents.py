@@ -131,22 +131,10 @@ class KnownBad(Case):
             crate, module, test = re.split(" |::", fails)
             assert f"#[test]\nfn {test}(" in text_of(f"crates/{crate}/src/{module}.rt"), f"{name}: there is no {fails}"
 
-
-class Edits(Case):
-    def test_there_are_at_most_200(self):
+    def test_there_are_at_most_200_edits(self):
         edits = glob.glob(f"{ROOT}/crates/*/must-fail/*")
         same([it for it in edits if not it.endswith(".edit")], [], "files that are no edits")
         assert 0 < len(edits) <= 200, f"{len(edits)} edits"
-
-    def test_each_can_be_made(self):
-        """Each text that is to be replaced stands once in its file, as the pairs before have left it."""
-        for path in glob.glob(f"{ROOT}/crates/*/must-fail/*.edit"):
-            for part in re.split("(?m)^file: ", text_of(path))[1:]:
-                name, *pairs = re.split("(?m)\n(?:old|new): ", re.sub("(?m)^#.*\n", "", part.rstrip("\n")))
-                text = text_of(os.path.join(os.path.dirname(path), "..", name))
-                for old, new in zip(pairs[::2], pairs[1::2]):
-                    same(text.count(old), 1, f"{path}: how often {name} has {old!r}")
-                    text = text.replace(old, new)
 
 
 PAGE = text_of("docs/proving.md")

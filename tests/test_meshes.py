@@ -314,8 +314,7 @@ class Readers(Case):
             path, lines = self.room.put("part", body), []
             with open(path, "rb") as file:
                 found = [read(it, progress=lines.append) for it in (body, path, file)]
-            same(found, [read(body)] * 3, "of bytes, a path and a file")
-            same(lines, [told] * 3, "how far it is")
+            same((found, lines), ([read(body)] * 3, [told] * 3), "of bytes, a path and a file, and how far it is")
             with self.assertRaisesRegex(ValueError, "the caller's"):
                 read(body, progress=lambda it: int("the caller's"))
 

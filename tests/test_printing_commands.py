@@ -113,7 +113,6 @@ class Commands(Case):
                     (["--printer", "SL1S", "--mirror-x", part], brings + "--mirror-x"),
                     (["--printer", "SL1S", "--height", "9", part], brings + "--height")):
                 wrong_words(self.room, line, command, *words, "out")
-            # the table needs no library
             told = self.room.out(command, "--printer", "help", env=self.room.with_env(STLSLICE_LIBRARY="/none"))
             for word in ("SL1S  Original Prusa SL1S SPEED: 2560 x 1620 pixels, 128 x 81 x 150 mm\n    "
                          "from PrusaSlicer 2.5.0", "SL1  Original"):

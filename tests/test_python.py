@@ -29,9 +29,7 @@ except stlslice.Fault as fault:
     print(fault.status, fault.line)
 """
 LACKING = "import os, signal; del signal.SIGHUP, signal.pthread_sigmask, os.sched_getaffinity; "
-# the names of 3MF
-CORE = "http://schemas.microsoft.com/3dmanufacturing/core/2015/02"
-MODEL = "http://schemas.microsoft.com/3dmanufacturing/2013/01/3dmodel"
+NAMES = "http://schemas.microsoft.com/3dmanufacturing"  # of 3MF
 FILES = {f"{os.path.basename(folder)}/{it}" for folder in ("python/stlslice", "commands/stlslice_commands")
          for it in os.listdir(os.path.join(ROOT, folder)) if "." in it}
 
@@ -127,12 +125,11 @@ class Wheel(Together):
         others = re.search(r"(?ms)^## Other parts in Python\n.*?^```python\n(.*?)^```$", text_of("docs/embedding.md"))[1]
         self.room.put("part.stl", text(box((0, 0, 0), (10, 20, 30)) + box((5, 5, 5), (20, 10, 40))))
         self.room.put("part.obj", obj((0, 0, 0), (1, 2, 3)))
-        vertices = lines('<vertex x="%d" y="%d" z="%d"/>', points((0, 0, 0), (1, 2, 3)))
-        triangles = lines('<triangle v1="%d" v2="%d" v3="%d"/>', FACES)
+        mesh = '<object id="1">' + lines('<vertex x="%d" y="%d" z="%d"/>', points((0, 0, 0), (1, 2, 3)))
+        mesh += lines('<triangle v1="%d" v2="%d" v3="%d"/>', FACES) + "</object>"
         with zipfile.ZipFile(self.room.file("part.3mf"), "w") as file:
-            file.writestr("_rels/.rels", f'<Relationships><Relationship Type="{MODEL}" Target="/a"/></Relationships>')
-            file.writestr("a", f'<model unit="inch" xmlns="{CORE}"><resources><object id="1"><mesh><vertices>{vertices}</vertices>'
-                          f'<triangles>{triangles}</triangles></mesh></object></resources><build><item objectid="1"/></build></model>')
+            file.writestr("_rels/.rels", f'<a><a Type="{NAMES}/2013/01/3dmodel" Target="/a"/></a>')
+            file.writestr("a", f'<model unit="inch" xmlns="{NAMES}/core/2015/02">{mesh}<item objectid="1"/></model>')
         shown = "print(len(pngs), sum(lit for _, lit in pngs) == sum(stlslice.open('part.stl', **how).areas()))"
         told = self.room.out(python, "-c", others + shown, cwd=self.room.path, env=env)
         same(told, "1524 layers\n600 layers\n800 True\n", "lines on other parts")
