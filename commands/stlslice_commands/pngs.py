@@ -15,7 +15,7 @@ def run():
     line = "a folder can't be standard output; stlslice --png writes all layers there, and ./- is a folder's name"
     refuse_if(folder == "-", line)
     refuse_if(os.path.realpath(folder) == os.path.realpath(os.curdir), f"{folder} is the current folder, which can't be made")
-    refuse_if(os.path.lexists(folder) and not (os.path.isdir(folder) and not os.listdir(folder)), f"{folder} is there already")
+    refuse_if(os.path.lexists(folder) and (not os.path.isdir(folder) or os.listdir(folder)), f"{folder} is there already")
     is_placed = os.path.islink(folder) or os.path.ismount(folder)
     refuse_if(is_placed, f"{folder} is a link or a mount point, in whose place no folder can be moved")
     path = aside(folder)

@@ -310,17 +310,19 @@ def _rows(name: str, values: Any, of_numbers: str) -> Any:
     return found.reshape(-1, 3)
 
 
-def _as_in_c(values: Any, kind: str) -> Any:
-    """A copy of an array of Python whose numbers are those of C already, and come in threes; else None."""
-    is_so = isinstance(values, array.array) and (values.typecode, values.itemsize, len(values) % 3) == (kind, 4, 0)
-    return array.array(kind, values) if is_so else None
+def _as_in_c(values: Any, kind: str) -> Optional[Tuple[Any, int, int]]:
+    """A copy of an array of Python whose numbers are C's already, its address and its number of threes; None of anything else."""
+    if not isinstance(values, array.array) or (values.typecode, values.itemsize, len(values) % 3) != (kind, 4, 0):
+        return None
+    kept = array.array(kind, values)
+    return kept, kept.buffer_info()[0], len(kept) // 3
 
 
 def _points(values: Triples) -> Tuple[Any, Any, int]:
     """A copy of the coordinates as C has them, its address and the number of points. What no coordinate can be stays so."""
-    kept = _as_in_c(values, "i")
-    if kept is not None:
-        return kept, kept.buffer_info()[0], len(kept) // 3
+    found = _as_in_c(values, "i")
+    if found:
+        return found
     rows = _rows("points", values, "iu")
     if isinstance(rows, list):
         kept = array.array("i", [max(-MOST_COORDINATE, min(_whole("points", it), MOST_COORDINATE)) for it in rows])
@@ -334,9 +336,9 @@ def _points(values: Triples) -> Tuple[Any, Any, int]:
 
 def _triangles(values: Triples) -> Tuple[Any, Any, int]:
     """A copy of the indices as C has them, its address and the number of triangles."""
-    kept = _as_in_c(values, "I")
-    if kept is not None:
-        return kept, kept.buffer_info()[0], len(kept) // 3
+    found = _as_in_c(values, "I")
+    if found:
+        return found
     rows = _rows("triangles", values, "iu")
     if isinstance(rows, list):
         numbers = [_whole("triangles", it) for it in rows]

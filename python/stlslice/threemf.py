@@ -220,10 +220,11 @@ class _Object:
         (rows, decimals), (flat, own) = transform, self.numbers
         first, corners = len(points) // 3, array("I", self.triangles)
         block, one = array("i", bytes(4 * len(flat))), 10 ** (decimals + own)
+        sides = [flat[k::3] for k in range(3)]
         for k, row in enumerate(rows):
             a, b, c, d = (2 * it for it in row)
             d *= 10 ** own
-            places = [rounded(a * x + b * y + c * z + d, one) for x, y, z in zip(flat[::3], flat[1::3], flat[2::3])]
+            places = [rounded(a * x + b * y + c * z + d, one) for x, y, z in zip(*sides)]
             is_far = places and not -FARTHEST <= min(places) <= max(places) <= FARTHEST
             refuse_if(is_far, f"object {self.id} reaches beyond 128 m from the origin")
             block[k::3] = array("i", places)
