@@ -3,7 +3,7 @@
 ghost use Rattle.std.specs.Prelude.{◌≡◌, ◌<◌, ◌≤◌, ◌%◌, ◌/◌, ◌+ℤ◌, ◌++◌, ◌∷◌, [], pos, IfOk, OnOk, drop, length, map, take};
 ghost use Rattle.std.specs.List.{All, range_with_len};
 ghost use Rattle.std.specs.List.Sorted.{IsPermutation, IsNonDecreasing};
-ghost use Rattle.mesh_weld.specs.HeightOrder.{AreKeysBy, AreNumbersSorted, IsOrderOf, high_in, low_in, range_in};
+ghost use Rattle.mesh_weld.specs.HeightOrder.{AreKeysBy, AreOrdered, IsOrderOf, high_in, low_in, range_in};
 ghost use Rattle.geometry.specs.Facet.{greatest_z, least_z};
 ghost use Rattle.mesh_weld.specs.Solid.{AreBlockTops, IsTop, height_range, height_ranges, kept_facets};
 ghost use Rattle.mesh_weld.specs.declared.height_order.TheConstants.{BLOCK_LEN, HEIGHT_OFFSET};
@@ -40,14 +40,27 @@ pub(crate) fn order_by_height<A: Allocator + Copy>(
     requires { length ranges.items ≤ FACET_LIMIT }
     ensures { IfOk result (IsOrderOf ranges.items) }
 {
-    let keys = list_keys(alloc, ranges.as_slice())?;
-    let order = order_of(alloc, keys)?;
-    let tops = block_tops(alloc, ranges.as_slice(), order.as_slice())?;
-    Ok(HeightOrder {
+    if let Some(counted) = counted_order(alloc, ranges.as_slice())? {
+        return Ok(with_ranges(ranges, counted));
+    }
+    let sorted = sorted_order(alloc, ranges.as_slice())?;
+    Ok(with_ranges(ranges, sorted))
+}
+
+/// The height ranges of facets, with the order of these and the tops of its blocks.
+fn with_ranges<A: Allocator>(
+    ranges: Vec<HeightRange, A>,
+    ordered: (Vec<u32, A>, Vec<i32, A>),
+) -> HeightOrder<A>
+    requires { AreOrdered ranges.items ordered.0.items ordered.1.items }
+    ensures { IsOrderOf ranges.items result }
+{
+    let (order, tops) = ordered;
+    HeightOrder {
         order,
         ranges,
         tops,
-    })
+    }
 }
 
 /// Appends the height ranges of facets, but for the degenerate ones, to those of facets before them.
@@ -91,7 +104,7 @@ pub(crate) fn list_ranges<A: Allocator>(
 }
 
 /// A facet's least height, made no less than 0, in the upper half of a word, and its number in the lower half.
-pub(crate) type HeightKey = u64;
+type HeightKey = u64;
 
 /// Added to a height so that it is no less than 0.
 const HEIGHT_OFFSET: i64 = 1 << 31;
@@ -179,7 +192,7 @@ fn block_tops<A: Allocator + Copy>(
 }
 
 /// The greatest height of a corner of the facets with these numbers, in micrometres. There is one of them at least.
-fn block_top(ranges: &[HeightRange], block: &[u32]) -> i32
+pub(crate) fn block_top(ranges: &[HeightRange], block: &[u32]) -> i32
     requires some { 0 < length block.now }
     requires numbers { All (λ n. n < length ranges.now) block.now }
     ensures { IsTop (high_in ranges.now) block.now result }
@@ -194,27 +207,26 @@ fn block_top(ranges: &[HeightRange], block: &[u32]) -> i32
 }
 
 /// The height range of the facet with this number.
-fn range_at(ranges: &[HeightRange], number: u32) -> HeightRange
+pub(crate) fn range_at(ranges: &[HeightRange], number: u32) -> HeightRange
     requires { number < length ranges.now }
     ensures { result ≡ range_in ranges.now number }
 {
     ranges[number as usize]
 }
 
-/// The numbers of the facets that have the keys, the least key first. Comparisons sort the keys if a counting sort does not
-/// serve.
-fn order_of<A: Allocator + Copy>(
+/// The order of the facets with these height ranges, by comparisons, and the tops of its blocks.
+fn sorted_order<A: Allocator + Copy>(
     alloc: A,
-    mut keys: Vec<HeightKey, A>,
-) -> Result<Vec<u32, A>, AllocError>
-    requires { map (λ key. key % HALF_WORD) keys.items ≡ range_with_len 0 (length keys.items) }
-    ensures { IfOk result (λ order. AreNumbersSorted keys.items order.items) }
+    ranges: &[HeightRange],
+) -> Result<(Vec<u32, A>, Vec<i32, A>), AllocError>
+    requires { length ranges.now ≤ FACET_LIMIT }
+    ensures { IfOk result (λ own. AreOrdered ranges.now own.0.items own.1.items) }
 {
-    if let Some(order) = counted_order(alloc, keys.as_slice())? {
-        return Ok(order);
-    }
+    let mut keys = list_keys(alloc, ranges)?;
     sort_heights(&mut keys);
-    numbers_of(alloc, keys.as_slice())
+    let order = numbers_of(alloc, keys.as_slice())?;
+    let tops = block_tops(alloc, ranges, order.as_slice())?;
+    Ok((order, tops))
 }
 
 /// Sorts keys in place, the least first.
