@@ -108,7 +108,7 @@ fn append_named<A: Allocator + Copy>(
 {
     numbered?;
     named?;
-    ids.append(&fresh)
+    ids.append(fresh)
 }
 
 /// Numbers the edges of the kept facets, names further ones, and does the caller's own work, by three threads at the same time.

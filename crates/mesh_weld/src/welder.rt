@@ -125,7 +125,7 @@ impl<A: Allocator + Copy + Send + Sync> Welder<A> {
     pub fn finish(self) -> Result<Solid<A>, WeldFault>
         ensures { IsWeldOf self result }
     {
-        let (named, ranges, numbering) = self.numbered()?.without_table();
+        let (named, ranges, numbering) = self.numbered()?.without_table()?;
         let found = group_facets(
             named.alloc,
             named.points.as_slice(),
@@ -140,7 +140,7 @@ impl<A: Allocator + Copy + Send + Sync> Welder<A> {
     pub fn finish_by<R: Threads + Sync>(self, rt: &R) -> Result<Solid<A>, WeldFault>
         ensures { IsWeldOf self result }
     {
-        let (named, ranges, numbering) = self.numbered()?.without_table();
+        let (named, ranges, numbering) = self.numbered()?.without_table()?;
         let (points, ids) = (named.points.as_slice(), named.ids.as_slice());
         let found = group_facets_by(rt, named.alloc, points, ids, ranges, numbering);
         named.into_solid(found)
@@ -159,17 +159,20 @@ impl<A: Allocator + Copy + Send + Sync> Welder<A> {
     /// are freed.
     fn without_table(
         self,
-    ) -> (
-        NamedFacets<A>,
-        Vec<HeightRange, A>,
-        Option<EdgeNumbering<A>>,
-    )
-        ensures value { welder_by result.0.points.items result.0.ids.items result.0.degenerate.items ≡ self }
-        ensures named { AreNamed result.0.points.items result.0.ids.items }
-        ensures few { length result.0.ids.items + length result.0.degenerate.items ≤ FACET_LIMIT }
-        ensures ranges { result.1.items ≡ height_ranges (facets_by result.0.points.items result.0.ids.items) }
-        ensures numbering { IfSome result.2 (λ own. ArePairNumbers (half_edges_from 0 result.0.ids.items) own.numbers.items own.count) }
-        ensures small { IfSome result.2 (λ own. AreInHalfWords (half_edges_from 0 result.0.ids.items)) }
+    ) -> Result<
+        (
+            NamedFacets<A>,
+            Vec<HeightRange, A>,
+            Option<EdgeNumbering<A>>,
+        ),
+        AllocError,
+    >
+        ensures value { IfOk result (λ parts. welder_by parts.0.points.items parts.0.ids.items parts.0.degenerate.items ≡ self) }
+        ensures named { IfOk result (λ parts. AreNamed parts.0.points.items parts.0.ids.items) }
+        ensures few { IfOk result (λ parts. length parts.0.ids.items + length parts.0.degenerate.items ≤ FACET_LIMIT) }
+        ensures ranges { IfOk result (λ parts. parts.1.items ≡ height_ranges (facets_by parts.0.points.items parts.0.ids.items)) }
+        ensures numbering { IfOk result (λ parts. IfSome parts.2 (λ own. ArePairNumbers (half_edges_from 0 parts.0.ids.items) own.numbers.items own.count)) }
+        ensures small { IfOk result (λ parts. IfSome parts.2 (λ own. AreInHalfWords (half_edges_from 0 parts.0.ids.items))) }
     {
         let Welder { names, kept } = self;
         let Kept { ids, ranges } = kept;
@@ -179,14 +182,14 @@ impl<A: Allocator + Copy + Send + Sync> Welder<A> {
             points,
             degenerate,
         } = names;
-        let (ids, numbering) = ids.into_parts();
+        let (ids, numbering) = ids.into_parts()?;
         let named = NamedFacets {
             alloc,
             points,
             ids,
             degenerate,
         };
-        (named, ranges, numbering)
+        Ok((named, ranges, numbering))
     }
 }
 

@@ -70,18 +70,21 @@ impl<A: Allocator + Copy> FirstNumbers<A> {
 pub(crate) struct NumberedFacets<A: Allocator> {
     alloc: A,
     ids: Vec<[u32; 3], A>,
+    /// The ids of further facets, which [`NumberedFacets::number`] moves to the others. So the thread that appends a list of
+    /// facets, while others wait for it, copies none.
+    more: Vec<[u32; 3], A>,
     /// `None` if the chains did not give all numbers.
     first: Option<FirstNumbers<A>>,
 }
 
 impl<A: Allocator> Model for NumberedFacets<A> {
-    ghost use Rattle.std.specs.Prelude.{◌≤◌, ℕ, List, IfSome, length, take};
+    ghost use Rattle.std.specs.Prelude.{◌≤◌, ◌++◌, ℕ, List, IfSome, length, take};
     ghost use Rattle.mesh_weld.specs.EdgeChains.{AreNumbered};
     ghost use Rattle.mesh_weld.specs.HalfEdge.{half_edges_from};
 
     ghost Value = { List (List ℕ) };
 
-    ghost view = { λ f. f.ids.items };
+    ghost view = { λ f. f.ids.items ++ f.more.items };
 
     ghost invariant = { λ f. IfSome f.first (λ own. (own.facets ≤ length f.ids.items)
         × AreNumbered (half_edges_from 0 (take own.facets f.ids.items)) own.chains.heads.items own.chains.edges.items own.numbers.items) };
@@ -95,6 +98,7 @@ impl<A: Allocator + Copy> NumberedFacets<A> {
         NumberedFacets {
             alloc,
             ids: Vec::new(alloc),
+            more: Vec::new(alloc),
             first: Some(FirstNumbers {
                 chains: EdgeChains::new(alloc),
                 numbers: Vec::new(alloc),
@@ -107,22 +111,43 @@ impl<A: Allocator + Copy> NumberedFacets<A> {
     pub(crate) fn len(&self) -> usize
         ensures { result ≡ length self.now }
     {
-        self.ids.len()
+        self.ids.len() + self.more.len()
     }
 
     /// Appends a facet.
     pub(crate) fn push(&mut self, own: [u32; 3]) -> Result<(), AllocError>
         ensures { OnOk result (self.new ≡ self.old ++ own ∷ []) }
     {
+        if self.more.len() > 0 {
+            self.more.push(own)?;
+            return Ok(());
+        }
         self.ids.push(own)?;
         Ok(())
     }
 
-    /// Appends other facets, which need have no numbers.
-    pub(crate) fn append(&mut self, more: &NumberedFacets<A>) -> Result<(), AllocError>
-        ensures { OnOk result (self.new ≡ self.old ++ more.now) }
+    /// Appends other facets, which get new numbers.
+    pub(crate) fn append(&mut self, others: NumberedFacets<A>) -> Result<(), AllocError>
+        ensures { OnOk result (self.new ≡ self.old ++ others) }
     {
-        self.ids.extend_from_slice(more.ids.as_slice())
+        let NumberedFacets {
+            mut ids,
+            mut more,
+            ..
+        } = others;
+        if self.more.len() > 0 {
+            self.more.append(&mut ids)?;
+        } else {
+            self.more = ids;
+        }
+        self.more.append(&mut more)
+    }
+
+    /// Brings all ids into one list.
+    fn gather(&mut self) -> Result<(), AllocError>
+        ensures { self.new ≡ self.old }
+    {
+        self.ids.append(&mut self.more)
     }
 
     /// Numbers the half-edges of facets that have no numbers yet, between `count` vertices. If chains do not serve, all numbers
@@ -130,6 +155,7 @@ impl<A: Allocator + Copy> NumberedFacets<A> {
     pub(crate) fn number(&mut self, count: usize) -> Result<(), AllocError>
         ensures { self.new ≡ self.old }
     {
+        self.gather()?;
         if self.ids.len() < LEAST_CHAINED {
             return Ok(());
         }
@@ -152,20 +178,24 @@ impl<A: Allocator + Copy> NumberedFacets<A> {
     }
 
     /// The ids, and the numbers of the edges if all facets have them.
-    pub(crate) fn into_parts(self) -> (Vec<[u32; 3], A>, Option<EdgeNumbering<A>>)
-        ensures ids { result.0.items ≡ self }
-        ensures numbering { IfSome result.1 (λ own. ArePairNumbers (half_edges_from 0 self) own.numbers.items own.count) }
-        ensures small { IfSome result.1 (λ own. AreInHalfWords (half_edges_from 0 self)) }
+    pub(crate) fn into_parts(
+        self,
+    ) -> Result<(Vec<[u32; 3], A>, Option<EdgeNumbering<A>>), AllocError>
+        ensures ids { IfOk result (λ parts. parts.0.items ≡ self) }
+        ensures numbering { IfOk result (λ parts. IfSome parts.1 (λ own. ArePairNumbers (half_edges_from 0 self) own.numbers.items own.count)) }
+        ensures small { IfOk result (λ parts. IfSome parts.1 (λ own. AreInHalfWords (half_edges_from 0 self))) }
     {
         let NumberedFacets {
-            alloc: _,
-            ids,
+            mut ids,
+            mut more,
             first,
+            ..
         } = self;
+        ids.append(&mut more)?;
         let numbering = match first {
             Some(first) => first.of_all(ids.as_slice()),
             None => None,
         };
-        (ids, numbering)
+        Ok((ids, numbering))
     }
 }

@@ -4,22 +4,22 @@ use Rattle.mesh_weld.specs.Welding.{IsWeldOf}
 use Rattle.mesh_weld.proofs.welder.Welder.finish_by.Goals as goal
 
 pub group_facets_by-found-requires-clause-ranges : goal.group_facets_by-found-requires-clause-ranges
-group_facets_by-found-requires-clause-ranges g c κs within = rw (c.as_slice-points.ensures.value, c.as_slice-ids.ensures.value) c.without_table-named.ensures.ranges
+group_facets_by-found-requires-clause-ranges g c κs within = rw (c.as_slice-points.ensures.value, c.as_slice-ids.ensures.value) c.in_ok-named.ensures.ranges
 
 pub group_facets_by-found-requires-clause-few : goal.group_facets_by-found-requires-clause-few
-group_facets_by-found-requires-clause-few g c κs within = rw c.as_slice-ids.ensures.value (omega (arith, c.without_table-named.ensures.few))
+group_facets_by-found-requires-clause-few g c κs within = rw c.as_slice-ids.ensures.value (omega (arith, c.in_ok-named.ensures.few))
 
 pub group_facets_by-found-requires-clause-numbering : goal.group_facets_by-found-requires-clause-numbering
-group_facets_by-found-requires-clause-numbering g c κs within = rw c.as_slice-ids.ensures.value c.without_table-named.ensures.numbering
+group_facets_by-found-requires-clause-numbering g c κs within = rw c.as_slice-ids.ensures.value c.in_ok-named.ensures.numbering
 
 pub group_facets_by-found-requires-clause-small : goal.group_facets_by-found-requires-clause-small
-group_facets_by-found-requires-clause-small g c κs within = rw c.as_slice-ids.ensures.value c.without_table-named.ensures.small
+group_facets_by-found-requires-clause-small g c κs within = rw c.as_slice-ids.ensures.value c.in_ok-named.ensures.small
 
 pub into_solid-requires-clause-named : goal.into_solid-requires-clause-named
-into_solid-requires-clause-named g c = c.without_table-named.ensures.named
+into_solid-requires-clause-named g c = c.in_ok-named.ensures.named
 
 pub into_solid-requires-clause-few : goal.into_solid-requires-clause-few
-into_solid-requires-clause-few g c = c.without_table-named.ensures.few
+into_solid-requires-clause-few g c = c.in_ok-named.ensures.few
 
 pub into_solid-requires-clause-edges : goal.into_solid-requires-clause-edges
 into_solid-requires-clause-edges g c = rw c.as_slice-ids.ensures.value at c.group_facets_by-found.ensures.edges
@@ -28,4 +28,4 @@ pub into_solid-requires-clause-orders : goal.into_solid-requires-clause-orders
 into_solid-requires-clause-orders g c = rw (c.as_slice-points.ensures.value, c.as_slice-ids.ensures.value) at c.group_facets_by-found.ensures.orders
 
 pub returns : goal.returns
-returns g c = subst (λ (w : Welder). IsWeldOf w c.into_solid.result) (c.without_table-named.ensures.value ∙ c.in_ok-numbered.ensures) c.into_solid.ensures
+returns g c = subst (λ (w : Welder). IsWeldOf w c.into_solid.result) (c.in_ok-named.ensures.value ∙ c.in_ok-numbered.ensures) c.into_solid.ensures
