@@ -9,7 +9,7 @@ for command in stlslice-sl1 stlslice-pngs
     complete -c $command -l turn -f -a 'auto\t"only if it does not fit otherwise"' -d 'Turn the part by a quarter'
     complete -c $command -l rule -x -a 'evenodd\t"overlaps of shells stay dark" nonzero\t"overlaps are lit, and shells inside out" positive\t"overlaps are lit, as supports need"' -d 'Which pixels are lit (default positive)'
     complete -c $command -l unit -x -a 'mm cm m inch' -d 'Unit of the part\'s numbers (default mm)'
-    complete -c $command -l shells -d 'Slice each shell by itself and join the images'
+    complete -c $command -l shells -d 'Slice the shells in groups and join the images'
     complete -c $command -l mirror-x -d 'Swap left and right'
     complete -c $command -l mirror-y -d 'Swap top and bottom'
     complete -c $command -l depth -x -a '1 8' -d 'Bits of a PNG\'s pixel (default 8)'

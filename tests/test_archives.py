@@ -141,8 +141,7 @@ class Archives(Case):
         dark = ("no pixel is lit by --rule positive: is the part inside out (try --rule nonzero), or its unit another than "
                 "mm? It is")
         small = "0.020 x 0.027 x 0.030 mm"
-        for bad, status, line in (
-                ("facet", 3, "stlslice: expected solid at byte 0"), (OPEN, 4, OPEN_LINE),
+        for bad, status, line in (("facet", 3, "stlslice: expected solid at byte 0"), (OPEN, 4, OPEN_LINE),
                 ("solid\nendsolid\n", 1, "%s: the part has no facets"),
                 (text(turned_over(CUBE)), 1, f"%s: {dark} 1.000 x 1.000 x 1.000 mm"),
                 (text(box((0, 0, 0), ("0.02", "0.027", "0.03"))), 1,
@@ -168,8 +167,7 @@ class Archives(Case):
         # before the part is looked at
         os.mkdir(self.room.file("empty"))
         os.symlink("empty", self.room.file("link to it"))
-        for command, name, line in (
-                *((it, "none/out", "No such file or directory: {}") for it in (SL1, PNGS, PAGE)),
+        for command, name, line in (*((it, "none/out", "No such file or directory: {}") for it in (SL1, PNGS, PAGE)),
                 (PNGS, "link", "{} is there already"),
                 (PNGS, "link to it", "{} is a link or a mount point, in whose place no folder can be moved")):
             out = self.room.file(name)
@@ -238,8 +236,7 @@ WRONG = {
     "--height=0": "it takes millimetres above 0 and below 1000000, as 150 or 149.5",
     "--exposure=0": SECONDS, "--first-exposure=-2": SECONDS, "--fade=1000": "it takes a whole number, 0 to 999",
     "--turn=half": "it takes auto, or no value", "--turn=quarter": "it takes auto, or no value",
-    "--rule=xor": "invalid choice: 'xor'", "--unit=foot": "invalid choice: 'foot'", "--depth=2": "it takes 1 or 8",
-}
+    "--rule=xor": "invalid choice: 'xor'", "--unit=foot": "invalid choice: 'foot'", "--depth=2": "it takes 1 or 8"}
 
 
 class Words(Case):

@@ -17,8 +17,7 @@ SPELLED = {
         ("python/stlslice/__init__.py", "points at most {m} metres from 0"),
         ("python/stlslice/threemf.py", "reaches beyond {m} m from the origin"),
         ("crates/test_meshes/src/published.rt", "FARTHEST: i32 = {};")],
-    "geometry::CENTRE_LIMIT": [
-        ("docs/formats.md", "is above {}; equal is allowed"),
+    "geometry::CENTRE_LIMIT": [("docs/formats.md", "is above {}; equal is allowed"),
         ("crates/test_meshes/src/published.rt", "FARTHEST_CENTRE: i64 = {};")],
     "geometry::STEP_LIMIT": [
         ("--help", "Width and depth of a pixel in micrometres, 1 to {}", "Height of a layer in micrometres, 1 to {}"),
@@ -35,14 +34,12 @@ SPELLED = {
         ("library/tests/hostile.c", "pitch and layer height take 1 to {} micrometres"),
         ("library/tests/meshes.py", "pitch and layer height take 1 to {} micrometres"),
         ("crates/test_meshes/src/published.rt", "GREATEST_STEP: u32 = {};")],
-    "geometry::COLUMN_LIMIT": [
-        ("--help", "three counts (at most {}, {} and"), ("docs/usage.md", "counts up to {}, {} and"),
+    "geometry::COLUMN_LIMIT": [("--help", "three counts (at most {}, {} and"), ("docs/usage.md", "counts up to {}, {} and"),
         ("docs/formats.md", "At most {} columns and rows,"), ("man/stlslice.1", "most {}, {} and"),
         ("include/stlslice.h", "at most {}, {} and"), ("docs/refused.md", "{} columns and rows"),
         ("SECURITY.md", "The grid may have {} x {} x"), ("README.md", "{} pixels a side"),
         ("commands/stlslice_commands/page.py", "MOST = {}  #"), ("crates/test_meshes/src/published.rt", "MOST_COLUMNS: u32 = {};")],
-    "geometry::LAYER_LIMIT": [
-        ("--help", " and {}), and its least"), ("docs/usage.md", " and {}; the least corner"),
+    "geometry::LAYER_LIMIT": [("--help", " and {}), and its least"), ("docs/usage.md", " and {}; the least corner"),
         ("docs/formats.md", "rows, {} layers."), ("man/stlslice.1", " and {}, and its least corner"),
         ("include/stlslice.h", " and {}; for"), ("docs/refused.md", "{} layers"), ("SECURITY.md", " x {} voxels"),
         ("crates/test_meshes/src/published.rt", "MOST_LAYERS: u32 = {};")],
@@ -67,27 +64,21 @@ SPELLED = {
         *((f"man/stlslice-{it}.1", "Threads of the slicer, 1 to {}.") for it in ("sl1", "pngs", "page")),
         *((f"completions/_stlslice-{it}", "threads of the slicer]:number (1 to {}):") for it in ("sl1", "page")),
         *((f"completions/stlslice-{it}.fish", "Threads of the slicer, 1 to {}'") for it in ("sl1", "page"))],
-    "micro_num::WORD_LIMIT": [
-        ("docs/formats.md", "At most {} bytes."), ("docs/refused.md", "{} bytes"),
+    "micro_num::WORD_LIMIT": [("docs/formats.md", "At most {} bytes."), ("docs/refused.md", "{} bytes"),
         ("python/stlslice/_exact.py", "LONGEST = {} # bytes of a number")],
-    "stl_text::WORD_FRONT": [
-        ("docs/decisions/front-of-a-word.md", "keeps the first {} bytes of such a word"),
+    "stl_text::WORD_FRONT": [("docs/decisions/front-of-a-word.md", "keeps the first {} bytes of such a word"),
         ("docs/usage.md", "holds the first {} bytes of a word")],
     "mesh_reading::LEAST_READ": [("docs/decisions/front-of-a-word.md", "is offered at least {} bytes (`LEAST_READ`)")],
     "build_book::STRIPE_LAYERS": [("docs/ARCHITECTURE.md", "draws stripes of {} layers", "**Stripe**: {} layers")],
-    "mesh_reading::WORKER_LEN": [
-        ("docs/usage.md", "A round is {M} mebibyte for each worker"),
+    "mesh_reading::WORKER_LEN": [("docs/usage.md", "A round is {M} mebibyte for each worker"),
         ("docs/decisions/rounds-and-parts.md", "A round is {M} mebibyte for each worker")],
-    "mesh_reading::ROUND_LIMIT": [
-        ("docs/usage.md", "for each worker, at most {M}, and"),
+    "mesh_reading::ROUND_LIMIT": [("docs/usage.md", "for each worker, at most {M}, and"),
         ("docs/decisions/rounds-and-parts.md", "for each worker, at most {M}.")],
     "mesh_reading::WINDOW_LEN": [("docs/usage.md", "and up to {K} KiB more")],
     "stl_text::PARTS_OF_A_WORKER": [("docs/decisions/rounds-and-parts.md", "Each round has {} parts for each worker")],
-    "stlslice::SET_LEN": [
-        ("docs/usage.md", "A set takes at most {M} MiB"),
+    "stlslice::SET_LEN": [("docs/usage.md", "A set takes at most {M} MiB"),
         ("docs/decisions/pages-for-dense-images.md", "A set has at most {M} MiB (`SET_LEN`)")],
-    "stlslice::DRAWN_LIMIT": [
-        ("docs/usage.md", "An image of more than {M} mebibyte"),
+    "stlslice::DRAWN_LIMIT": [("docs/usage.md", "An image of more than {M} mebibyte"),
         ("docs/decisions/pages-for-dense-images.md", "larger images than {M} mebibyte (`DRAWN_LIMIT`)")],
     "stlslice::PAGE_LEN": [("docs/decisions/pages-for-dense-images.md", "has at most {M} mebibyte (`PAGE_LEN`)")],
     "stlslice::FEW_SPANS": [("docs/decisions/pages-for-dense-images.md", "more than {} spans a row on average")],
@@ -96,8 +87,7 @@ SPELLED = {
     "exact_cut::LEADING_BITS": [("docs/decisions/quotients-by-guess.md", "the leading {} bits of both")],
     "mesh_weld::STEPS_A_FACET": [("docs/decisions/edges-in-chains.md", "{} steps a facet and")],
     "mesh_weld::LEAST_CHAINED": [("docs/decisions/edges-in-chains.md", "below {} facets (`LEAST_CHAINED`)")],
-    "mesh_weld::LEAST_COUNTED": [("docs/decisions/facets-by-counting-sort.md", "from {} facets on (`LEAST_COUNTED`)")],
-}
+    "mesh_weld::LEAST_COUNTED": [("docs/decisions/facets-by-counting-sort.md", "from {} facets on (`LEAST_COUNTED`)")]}
 
 SMALL = {1: "a", 4: "four", 8: "eight"}
 

@@ -22,13 +22,14 @@ from stlslice import _exact, obj as objs, threemf
 from stlslice_commands import sl1, slicing  # noqa: F401, read here once, and not in each run that is forked off
 
 SCREEN = ["--canvas", "160x120", "--pitch", "250", "--layer", "500"]
+CORNER = '<vertex x="%s" y="%s" z="%s"/>'
 LOW, HIGH = (0, 0, 0), (10, 20, 30)
 RELATIONSHIPS = ('<Relationships xmlns="http://schemas.openxmlformats.org/package/2006/relationships">'
                  f'<Relationship Target="/3D/3dmodel.model" Id="r" Type="{threemf.MODEL}"/></Relationships>')
 
 
 def mesh(low, high):
-    return ("<mesh><vertices>" + lines('<vertex x="%s" y="%s" z="%s"/>', points(low, high)) + "</vertices><triangles>"
+    return ("<mesh><vertices>" + lines(CORNER, points(low, high)) + "</vertices><triangles>"
             + lines('<triangle v1="%d" v2="%d" v3="%d"/>', FACES) + "</triangles></mesh>")
 
 
@@ -47,7 +48,7 @@ def holding(number, components):
 
 MESH = mesh(LOW, HIGH)
 BOX = f'<object id="1">{MESH}</object>'
-VERTEX = '<vertex x="1" y="2" z="3"/>'
+VERTEX = CORNER % (1, 2, 3)
 TRIANGLE = '<triangle v1="0" v2="1" v3="2"/>'
 
 
@@ -112,6 +113,26 @@ class Objs(Case):
             wanted = stlslice.micrometres([list(map(Decimal, row)) for row in rows], unit)
             same(list(read_obj(lines("v %s %s %s\n", rows), unit)[0]), [it for row in wanted for it in row], unit)
 
+    def test_transforms_are_rounded_as_by_the_module(self):
+        def moved(by, at):
+            return [sum(at[j] * by[3 * j + k] for j in range(3)) + by[9 + k] for k in range(3)]
+
+        draw = random.Random(10)
+        for unit, times in threemf.UNITS.items():
+            inner, outer = ([Decimal(draw.randrange(-2000, 2001)) / 2000 for _ in range(12)] for _ in range(2))
+            corners = [[Decimal(draw.randrange(-10000, 10001)) / 2000 for _ in range(3)] for _ in range(90)]
+            body = f"<mesh><vertices>{lines(CORNER, corners)}</vertices><triangles>{TRIANGLE}</triangles></mesh>"
+            words = [" ".join(map(str, it)) for it in (inner, outer)]
+            twice = f'<object id="1">{body}</object>' + holding(2, placed(words[0], kind="component"))
+            found = read_3mf(model(twice, placed(words[1], 2), f'unit="{unit}"'))[0]
+            exact = [[it * times / 1000 for it in moved(outer, moved(inner, at))] for at in corners]
+            same(list(found), [it for row in stlslice.micrometres(exact) for it in row], unit)
+
+    def test_lines_end_in_each_way_and_a_mark_is_passed(self):
+        for body in ("\ufeffv 1 2 3\nv 4 5 6\r\nv 7 8 9\nf 1 2 3", "v 1 2 3\rv 4 5 6\rv 7 8 9\rf 1 2 3\r"):
+            same([list(it) for it in read_obj(body)], [list(range(1000, 10000, 1000)), [0, 1, 2]], repr(body))
+        same(refusal(read_obj, "v 1 2 3\r\rw"), "FormatFault: line 3 of the OBJ: 'w' isn't taken", "its line")
+
     def test_each_form_of_a_face(self):
         square = ("v 0 0 0\nv 1 0 0 1\nv 1 1 0 0.5 0.5 0.5 # a colour\n\n  v 0 1 0\r\n"
                   "vt 0 0\nvn 0 0 1\ng a\nusemtl b\ns off\no c\n")
@@ -164,8 +185,7 @@ class ThreeMfs(Case):
 
     def test_transforms_are_exact_and_rounded_once(self):
         volume = 6 * 10_000 * 20_000 * 30_000
-        for transform, low, high in (
-                ("1 0 0 0 1 0 0 0 1 -5 2.0005 -0.0005", [-5000, 2001, -1], [5000, 22001, 30_000]),
+        for transform, low, high in (("1 0 0 0 1 0 0 0 1 -5 2.0005 -0.0005", [-5000, 2001, -1], [5000, 22001, 30_000]),
                 ("0 1 0 -1 0 0 0 0 1 0 0 0", [-20_000, 0, 0], [0, 10_000, 30_000]),
                 ("-1 0 0 0 1 0 0 0 1 0 0 0", [-10_000, 0, 0], [0, 20_000, 30_000]),
                 ("1 0 0 0 1 0 0 0 -1 0 0 30", [0, 0, 0], [10_000, 20_000, 30_000]),
@@ -198,8 +218,7 @@ class ThreeMfs(Case):
         def changed(old, new):
             return model(BOX.replace(old, new, 1))
 
-        for body, line in (
-                (changed('v1="0"', 'v1="8"'), "object 1 has a triangle with a point that it hasn't"),
+        for body, line in ((changed('v1="0"', 'v1="8"'), "object 1 has a triangle with a point that it hasn't"),
                 (changed("<vertices>", f"<vertices>{129 * VERTEX}"),
                  "object 1 has 137 points, more than its triangles can have"),
                 (changed(' z="0"', ""), "z is missing"), (changed('x="10"', 'x="nan"'), "'nan' is not a number"),
@@ -218,8 +237,7 @@ class ThreeMfs(Case):
                 (model(items=placed("1 0 0 0 1 0 0 0 0 0 0 0")), "a transform makes an object flat"),
                 (model(items='<item objectid="2"/>'), "there is no object 2 before what refers to it"),
                 (model(holding(1, '<component objectid="1"/>')), "there is no object 1 before what refers to it"),
-                (model(2 * BOX), "object 1 stands twice, or in another"),
-                (model(MESH), "it has a vertex outside an object"),
+                (model(2 * BOX), "object 1 stands twice, or in another"), (model(MESH), "it has a vertex outside an object"),
                 ("<model/>", "its model is none of the core specification 1"),
                 (model(head="<!DOCTYPE a>"), "its XML has a document type"),
                 (model().replace("?>", ' encoding="none"?>', 1), "unknown encoding: none"),
@@ -247,6 +265,12 @@ def hostile_models():
                           ("spaces beyond", " " * (1 << 25))):
         yield name, model().replace("<resources>", "<resources>" + filling)
     yield "items", model(items=500_000 * '<item objectid="1"/>')
+    draw = random.Random(3)
+    yield "empty elements", model().replace("<resources>", "<resources>" + "".join(draw.choices(("<a/>", "<b/>"), k=1_000_000)))
+    small = lines(CORNER, zip(*[(f"{draw.randrange(100)}e-149" for _ in range(120_000))] * 3))
+    faces = 40_000 * TRIANGLE
+    yield "decimals", model(f'<object id="1"><mesh><vertices>{small}</vertices><triangles>{faces}</triangles></mesh></object>')
+    yield "empty objects", model(lines('<object id="%s"/>', [(k,) for k in range(100_000)]))
     for count, faces, items in ((30_000, 10_000, 12), (12_000, 12_000, 85), (3000, 1000, 180)):
         often = f"<mesh><vertices>{count * VERTEX}</vertices><triangles>{faces * TRIANGLE}</triangles></mesh>"
         yield f"{count} points {items} times", model(f'<object id="1">{often}</object>', items * placed(moved_by(1)))

@@ -105,15 +105,16 @@ class Commands(Case):
                    "COLUMNSxROWS and --pitch N (its screen in pixels, and a pixel in micrometres)")
         brings = "--printer SL1S brings its own: leave out "
         for command in (SL1, PNGS):
-            for words, line in (
-                    ([part], missing), (["--canvas", "9x9", part], missing), (["--pitch", "50", part], missing),
+            for words, line in (([part], missing), (["--canvas", "9x9", part], missing), (["--pitch", "50", part], missing),
                     (["--printer", "Mars", part], "--printer takes SL1 or SL1S (--printer help says more); for another "
                      "printer take --canvas and --pitch"),
                     (["--printer", "SL1S", "--canvas", "9x9", part], brings + "--canvas"),
                     (["--printer", "SL1S", "--mirror-x", part], brings + "--mirror-x"),
                     (["--printer", "SL1S", "--height", "9", part], brings + "--height")):
                 wrong_words(self.room, line, command, *words, "out")
-            told = self.room.out(command, "--printer", "help", env=self.room.with_env(STLSLICE_LIBRARY="/none"))
+            other = os.path.dirname(self.room.put("printers.py", "1 / 0"))  # a module of this name that is not ours
+            env = self.room.with_env(STLSLICE_LIBRARY="/none", PYTHONPATH=f"{other}:{self.room.environment.get('PYTHONPATH', '')}")
+            told = self.room.out(command, "--printer", "help", env=env)
             for word in ("SL1S  Original Prusa SL1S SPEED: 2560 x 1620 pixels, 128 x 81 x 150 mm\n    "
                          "from PrusaSlicer 2.5.0", "SL1  Original"):
                 assert word in told, told
@@ -345,8 +346,7 @@ class Commands(Case):
         front = bodies[0].replace("endsolid part\n", "")
         whole = front + bodies[1].replace("solid part\n", "", 1)
         ended, at = "input ended before facet or endsolid", whole.index("vertex 12")
-        for body, line in (
-                (front, ended), (whole[11:], "expected solid at byte 0"), (whole[:-14], ended),
+        for body, line in ((front, ended), (whole[11:], "expected solid at byte 0"), (whole[:-14], ended),
                 ("hello", "expected solid at byte 0"), ("", "input ended before solid"),
                 (whole.replace("vertex 12", "vertx 12", 1), f"expected vertex at byte {at}"),
                 (whole.replace("vertex 12", "vertex 1e999", 1), f"number at byte {at + 7}: out of range"),
@@ -381,8 +381,7 @@ class Terminals(Case):
         same(self.room.files(), ["part.stl"], "files")
 
     def test_progress_is_shown(self):
-        words = [SL1, "--canvas", "3000x3000", "--pitch", "20", "--layer", "4",
-                 example("supported.stl")]
+        words = [SL1, "--canvas", "3000x3000", "--pitch", "20", "--layer", "4", example("supported.stl")]
         status, told, shown = shown_on_a_terminal([*words, self.room.file("out")])
         same((status, told.count("\n")), (0, 1), "run")
         drawn = [int(it.replace(b",", b"")) for it in re.findall(rb"\r\x1b\[Klayer ([\d,]+) of 8,000, \d+ s left", shown)]

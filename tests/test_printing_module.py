@@ -49,8 +49,7 @@ def join_and_compare(some, columns, rows, rule, depth):
     wanted = functools.reduce(int.__xor__ if rule == "evenodd" else int.__or__, numbers)
     png, lit = images.joined([png_of_p4((columns, rows, it), depth) for it in some], list(map(ones, numbers)), rule)
     what = f"{len(some)} images of {columns} x {rows}, {rule}, {depth} bits, blocks of {images.BLOCK}"
-    assert pixels_of_png(png) == pixels_of_p4((columns, rows,
-                                               wanted.to_bytes(len(some[0]), "big"))), f"{what}: pixels differ"
+    assert pixels_of_png(png) == pixels_of_p4((columns, rows, wanted.to_bytes(len(some[0]), "big"))), f"{what}: pixels differ"
     same((lit, png[:33]), (ones(wanted), png_of_p4((columns, rows, some[0]), depth)[:33]), f"{what}: lit pixels and head")
 
 
@@ -181,9 +180,9 @@ class Module(Case):
 
     def test_formats_are_told(self):
         packed = b"PK\x03\x04" + b"." * 26
-        for head, kind in ((packed + b"[Content_Types].xml", "3MF"), (packed + b"part.stl", "zip"),
+        for head, kind in ((packed + bytes(1 << 17) + b"_rels/.rels", "3MF"), (packed + b"part.stl", "zip"),
                            (b"\x1f\x8b\x08\0", "gzip"), (b"ply\nformat ascii 1.0\n", "PLY"), (b"OFF\n8 6 0\n", "OFF"),
-                           (b"# made by a tool\n\nmtllib a.mtl\nv 1 2 3\n", "OBJ"), (b"v 1 2 3\n", "OBJ"),
+                           (b"# by a tool\n" * 5000 + b"mtllib a.mtl\nv 1 2 3\n", "OBJ"), (b"\xef\xbb\xbfv 1 2 3\n", "OBJ"),
                            (b"o part\n", "OBJ"), (b"solid part\nfacet normal 0 0 1\n", None), (b"  SOLID\n", None),
                            (b"facet", None), (b"", None), (b"\xef\xbb\xbfsolid", None)):
             same(parts.kind_of(head), kind, f"{head!r}")

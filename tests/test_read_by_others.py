@@ -82,7 +82,7 @@ SCREENS = {
     "SL1": ((120.96, 68.04), (2560, 1440), "portrait", (1, 0), (7.5, 35), ["--printer", "SL1"]),
 }
 PROFILE = beside_prusaslicer.PROFILE + "printer_model = {model}\nfaded_layers = 10\n"
-ROW = r"(?m)^\| `(\w+)\.stl` \| (\w+) \| (\d+) \|(?: [\d.]+ s, [\d.]+ MB \|){2} \d+ times \| [\d,]+ \| [\d,]+ \|$"
+ROW = r"(?m)^\| `(\w+)\.stl` \| (\w+) \| (\d+) \|(?: [\d.]+ s, [\d.]+ MB \|){2,3} \d+ times \| [\d,]+ \| [\d,]+ \|$"
 
 
 def layers(path):

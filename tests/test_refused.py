@@ -102,8 +102,7 @@ def far():
 FILES = {
     "Byte order mark": ([codecs.BOM_UTF8 + BRACKET], BRACKET),
     "UTF-16": ([BRACKET.decode().encode("utf-16"), codecs.BOM_UTF16_BE + BRACKET.decode().encode("utf-16-be")], BRACKET),
-    "Compressed by gzip": ([gzip.compress(BRACKET, mtime=0)], BRACKET),
-    "Binary STL": ([binary(b"made by a tool")], BRACKET),
+    "Compressed by gzip": ([gzip.compress(BRACKET, mtime=0)], BRACKET), "Binary STL": ([binary(b"made by a tool")], BRACKET),
     "Binary STL whose header begins with solid": ([binary(b"solid part"), binary(b"SOLID part\nby a tool")], BRACKET),
     "Another format: OBJ, PLY, OFF, AMF, 3MF": ([obj(*ENDS).encode()], text(box(*ENDS)).encode()),
     "NUL or Ctrl-Z at the end": ([BRACKET + b"\0\0\0", BRACKET + b"\x1a"], BRACKET),
@@ -115,16 +114,14 @@ FILES = {
     "No normal, or one that is not three words": (
         [replaced(rb"facet normal.*", b"facet"), replaced(rb"facet normal.*", b"facet normal 0 0"),
          replaced(rb"facet normal.*", b"facet normal 0 0 0 1")], BRACKET),
-    "outer without loop": ([replaced(rb"outer loop", b"outer")], BRACKET),
-    "Facets of four and more corners": quads(),
+    "outer without loop": ([replaced(rb"outer loop", b"outer")], BRACKET), "Facets of four and more corners": quads(),
     "Facets of two corners": ([text(cube(0, 9) + [((0, 0, 0), (0, 9, 0))]).encode()], text(cube(0, 9)).encode()),
     "A facet that is not closed": ([replaced(rb" *endfacet\n", b"")], BRACKET),
     "The file was cut": ([before(b"normal", 50), before(b"outer", 50), before(b"loop", 50), before(b"vertex", 151),
                           before(b"vertex", 151) + b"vertex 1 2", before(b"endloop", 50), before(b"endfacet", 50),
                           text(cube()).encode()[:999], BRACKET[:30000]], None),
     "Only endsolid is missing": ([replaced(rb"endsolid.*\n", b""), replaced(rb"\nendsolid.*\n", b"")], BRACKET),
-    "An empty file": ([b"", b" \n\n"], None),
-    "Decimal commas": ([BRACKET.replace(b".", b",")], BRACKET),
+    "An empty file": ([b"", b" \n\n"], None), "Decimal commas": ([BRACKET.replace(b".", b",")], BRACKET),
     "Exponents with D": ([BRACKET.replace(b"e+", b"D+").replace(b"e-", b"D-"),
                           BRACKET.replace(b"e+0", b"d").replace(b"e-", b"d-")], BRACKET),
     "nan or inf as a coordinate": ([replaced(rb"(?s)(vertex.*?vertex.*?vertex.*?)vertex \S+ \S+",
@@ -132,13 +129,10 @@ FILES = {
                                     for word in (b"nan", b"-INF", b"1.#QNAN")], BRACKET),
     "Numbers of more than 255 bytes": ([BRACKET.replace(b"2.800000e+01", b"2.800000" + b"0" * 260 + b"e+01"),
                                         BRACKET.replace(b"2.800000e+01", b"27.999999" + b"9" * 260)], BRACKET),
-    "Far from the origin": ([far()], BRACKET),
-    "A facet is missing": cubes(cube()[1:]),
+    "Far from the origin": ([far()], BRACKET), "A facet is missing": cubes(cube()[1:]),
     "A facet is turned inside out": cubes(turned_over(cube()[:1]) + cube()[1:]),
-    "A facet stands twice": cubes(cube() + [cube()[3]]),
-    "A T-junction": cubes(t_junction()),
-    "Corners that nearly meet": cubes(moved(cube(), 0.002, 1)),
-    "Supports with a facet missing": open_support(),
+    "A facet stands twice": cubes(cube() + [cube()[3]]), "A T-junction": cubes(t_junction()),
+    "Corners that nearly meet": cubes(moved(cube(), 0.002, 1)), "Supports with a facet missing": open_support(),
 }
 
 def sections():
@@ -259,8 +253,7 @@ class Refused(Case):
     def test_faults_of_grid_memory_and_devices(self):
         page, part = sections(), self.room.put("part.stl", BRACKET)
         small, coarse = text([((0, 0, 0), (0, 0, 0), (0, 0, 1))]), ["--pitch", "100", "--layer", "100"]
-        runs = {
-            "All facets are degenerate": lambda: self.refused(small),
+        runs = {"All facets are degenerate": lambda: self.refused(small),
             "The grid is too large": lambda: self.refused(BRACKET, ["--pitch", "1", "--layer", "1"]),
             "The grid has no cells": lambda: self.refused(BRACKET, REPORT + ["--grid", "0,1,1,0,0,0"]),
             "The grid reaches too far":

@@ -36,8 +36,7 @@ def run_by_packets(words, parts):
         finally:
             os.close(sink)
 
-    with subprocess.Popen([PROGRAM, *words], stdin=source, stdout=subprocess.PIPE, stderr=subprocess.PIPE,
-                          text=True) as child:
+    with subprocess.Popen([PROGRAM, *words], stdin=source, stdout=subprocess.PIPE, stderr=subprocess.PIPE, text=True) as child:
         os.close(source)
         writer = threading.Thread(target=write)
         writer.start()

@@ -54,8 +54,7 @@ class Usage(Case):
             (3, ["--pitch=+9", "--layer=009"]), (2, [*STEPS, "--grid=+1,1,1,0,0,0"]), (2, [*STEPS, "--probe=+1,0,0"]),
             (3, [*STEPS, "--grid=1,1,1,-0,000000009,0"]), (2, [*STEPS, "--grid=-0,1,1,0,0,0"]),
             (2, [*STEPS, "--grid=1,1,1,0000000000,0,0"]), (2, [*STEPS, "--grid=1,1,1,128000001,0,0"]),
-            (2, ["--box", "--rule=odd"]), (2, ["--box", "--grid=1"]), (0, ["--pitch=9", "--help"]), (0, ["--box", "-V"]),
-        ]
+            (2, ["--box", "--rule=odd"]), (2, ["--box", "--grid=1"]), (0, ["--pitch=9", "--help"]), (0, ["--box", "-V"])]
         for status, words in rows:
             same(self.room.run("stlslice", *words).status, status, f"status of {' '.join(words)}")
         for words, line in ((["--rule=odd", "--unit=m"], "--rule takes"), (["--unit=m", "--grid=1"], "--unit takes"),

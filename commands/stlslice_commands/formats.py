@@ -8,21 +8,22 @@ import shlex
 # Each was tried. {0} is the file, {1} the STL to make.
 CONVERTED = {"3MF": "prusa-slicer --export-stl --output {1} {0}", "zip": "unzip {0}", "gzip": "zcat {0} > {1}"}
 ASSIMP = "assimp export {0} {1}"  # of all others
+END = 1 << 16  # bytes
 KINDS = {
     "PLY": re.compile(rb"ply\s"),
     "OFF": re.compile(rb"(?:\s|#[^\n]*\n)*(?:ST)?C?N?4?n?OFF\s"),
-    "OBJ": re.compile(rb"(?:\s|#[^\n]*\n)*(?:v|vn|vt|vp|f|o|g|s|mtllib|usemtl)[ \t]"),
+    "OBJ": re.compile(rb"(?:\xef\xbb\xbf)?(?:\s|#[^\n]*\n)*(?:v|vn|vt|vp|f|o|g|s|mtllib|usemtl)[ \t]"),
     "AMF": re.compile(rb"(?:\xef\xbb\xbf)?\s*(?:<[?!][^>]*>\s*)*<amf[\s>]"),
-    # a 3MF is a zip whose first file is one of these
-    "3MF": re.compile(rb"PK\x03\x04(?s:.{,124})(?:\[Content_Types\]\.xml|_rels/|3D/|Metadata/)"),
+    "3MF": re.compile(rb"PK\x03\x04(?s:.*)_rels/\.rels"),
     "zip": re.compile(rb"PK\x03\x04"),
     "gzip": re.compile(rb"\x1f\x8b"),
 }
 
 
-def kind_of(head):
-    """The format whose files begin so, or None if it is none of these."""
-    return next((kind for kind, begin in KINDS.items() if begin.match(head)), None)
+def kind_of(data):
+    """The format of a file, by its first bytes and its last, or None if it is none of these."""
+    ends = data[:END] + data[max(END, len(data) - END):]
+    return next((kind for kind, begin in KINDS.items() if begin.match(ends)), None)
 
 
 def is_binary(size, head):

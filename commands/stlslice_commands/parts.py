@@ -94,12 +94,12 @@ def read(path):
 
 def kind_of(data):
     """The format of a part, or None if it may be an STL. What is neither text nor a whole binary STL is refused."""
-    head, size = data[:1024], len(data)
+    head, size = data[:84], len(data)
     if formats.is_binary(size, head):
         return None
-    kind = formats.kind_of(head)
+    kind = formats.kind_of(data)
     # a binary STL has a 0 there, in its count of facets at the latest
-    if not kind and b"\0" in head[:84] and not head.startswith((b"\xff\xfe", b"\xfe\xff")) and size >= 84:
+    if not kind and b"\0" in head and not head.startswith((b"\xff\xfe", b"\xfe\xff")) and size >= 84:
         count = int.from_bytes(head[80:84], "little")
         raise Refused(f"the part is no text, and no whole binary STL: its header counts {count:,} facets, which take "
                       f"{84 + 50 * count:,} bytes, and it has {size:,}", 3)

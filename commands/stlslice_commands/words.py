@@ -60,7 +60,7 @@ class Listing(argparse.Action):
 
     def __call__(self, parser, given, word, option=None):
         # only here, since each start reads what it imports anew; and the table alone, since the module needs its library
-        sys.path.append(find_spec("stlslice").submodule_search_locations[0])
+        sys.path.insert(0, (find_spec("stlslice") or __import__("stlslice").__spec__).submodule_search_locations[0])
         from printers import listed, printers
         if word == "help":
             print(listed(), end="")
@@ -101,7 +101,7 @@ def parser(description, output):
     add("--turn", type=turn, metavar="[auto]",
         help="turn the part by a quarter, counterclockwise from above; 'auto' does so only if it doesn't fit otherwise, and says so")
     add("--shells", action="store_true",
-        help="slice each shell by itself and join the images, for a part of more than 1,048,576 facets")
+        help="slice the shells in groups and join the images, for a part of more than 1,048,576 facets")
     add("--mirror-x", action="store_true", help="swap left and right in each image")
     add("--mirror-y", action="store_true", help="swap top and bottom in each image")
     add("--depth", type=taking("1 or 8", "[18]", int), default=8, choices=[1, 8], help="bits of a PNG's pixel (%(default)s)")

@@ -1,20 +1,20 @@
-// The part as it came, ASCII or binary STL; and what else people choose, by its first bytes.
+// The part as it came, ASCII or binary STL; and what else people choose, by its first bytes and its last.
 
 const BINARY = { head: 84, facet: 50, count: 80 };
-const NEAR_END = 256; // bytes
+const NEAR_END = 256, END = 1 << 16; // bytes
 
 let file = null, is_binary = false;
 let not_whole = null; // the commands' line, if the file is neither text nor a whole binary STL
 
-// Kinds of files by their first bytes, each a letter. The first are those of the commands, which tell them in the same way: a 3MF
-// is a zip with one of these names within its first 128 bytes.
+// Kinds of files by their first bytes and their last, each a letter. The first are those of the commands, which tell them in the
+// same way: a 3MF is a zip that names its relationships there.
 const KINDS = {
-    "3MF": /^PK\x03\x04(?=[^]{0,105}\[Content_Types\]\.xml|[^]{0,118}_rels\/|[^]{0,121}3D\/|[^]{0,115}Metadata\/)/,
+    "3MF": /^PK\x03\x04[^]*_rels\/\.rels/,
     zip: /^PK\x03\x04/,
     gzip: /^\x1f\x8b/,
     PLY: /^ply[ \t-\r]/,
     OFF: /^(?:[ \t-\r]|#[^\n]*\n)*(?:ST)?C?N?4?n?OFF[ \t-\r]/,
-    OBJ: /^(?:[ \t-\r]|#[^\n]*\n)*(?:v|vn|vt|vp|f|o|g|s|mtllib|usemtl)[ \t]/,
+    OBJ: /^(?:\xef\xbb\xbf)?(?:[ \t-\r]|#[^\n]*\n)*(?:v|vn|vt|vp|f|o|g|s|mtllib|usemtl)[ \t]/,
     AMF: /^(?:\xef\xbb\xbf)?[ \t-\r]*(?:<[?!][^>]*>[ \t-\r]*)*<amf[ \t-\r>]/,
     "7z or RAR": /^(7z\xbc\xaf|Rar!)/,
     SketchUp: /^\xff\xfe\xff\x0e/,
@@ -48,8 +48,8 @@ function read({ all }) {
 const size_of = (count) => BINARY.head + BINARY.facet * count;
 
 function kind_of(all) {
-    const head = letters_of(all.subarray(0, 1024));
-    return Object.keys(KINDS).find((it) => KINDS[it].test(head)) ?? null;
+    const ends = letters_of(all.subarray(0, END)) + letters_of(all.subarray(Math.max(END, all.length - END)));
+    return Object.keys(KINDS).find((it) => KINDS[it].test(ends)) ?? null;
 }
 
 // A binary STL has a 0 there, in its count of facets at the latest.

@@ -367,11 +367,11 @@ def micrometres(points: Any, unit: Unit = "mm") -> Any:
     if isinstance(rows, list):
         try:
             _all_fit([at for at, it in enumerate(rows) if not abs(it) * factor < MOST_COORDINATE])
-            ratios = [it.as_integer_ratio() for it in rows]
+            # a tiny Decimal would take long
+            ratios = [it.as_integer_ratio() if abs(it) * factor > 0.1 else (0, 1) for it in rows]
         except (TypeError, AttributeError, ArithmeticError):
             raise TypeError("points takes numbers, such as float, int and Fraction") from None
-        sizes = [(2 * factor * abs(over) + under) // (2 * under) for over, under in ratios]
-        found = [size if over > 0 else -size for size, (over, _) in zip(sizes, ratios)]
+        found = [_rounded(2 * factor * over, under) for over, under in ratios]
         return list(zip(found[::3], found[1::3], found[2::3]))
     numpy = _numpy()
     with numpy.errstate(over="ignore", invalid="ignore"):   # what becomes infinite, or is no number, is refused below
@@ -383,6 +383,11 @@ def micrometres(points: Any, unit: Unit = "mm") -> Any:
     found = total.astype(numpy.int32)
     found += total - found - 0.5 >= total - more - less     # by how much the total is too large, exactly, is on the right
     return numpy.negative(found, out=found, where=rows < 0)
+
+
+def _rounded(twice: int, one: int) -> int:
+    """Half of a whole number, in units of `one`, halves away from zero."""
+    return (twice + one) // (2 * one) if twice >= 0 else -((one - twice) // (2 * one))
 
 
 def _all_fit(wrong: Sequence[int]) -> None:

@@ -4,7 +4,7 @@ vectors of three."""
 import re
 from typing import Any, Sequence, Tuple
 
-from . import NOT_READ, Fault
+from . import NOT_READ, Fault, _rounded
 
 NUMBER = re.compile(rb"([-+]?)(?:(\d+)(?:\.(\d*))?|\.(\d+))(?:[eE]([-+]?\d+))?")
 LONGEST = 255  # bytes of a number
@@ -35,15 +35,10 @@ def number(word: bytes) -> Tuple[int, int]:
     return -digits if sign == b"-" else digits, decimals
 
 
-def rounded(twice: int, one: int) -> int:
-    """Half of a whole number, in units of `one`, halves away from zero."""
-    return (twice + one) // (2 * one) if twice >= 0 else -((one - twice) // (2 * one))
-
-
 def in_micrometres(word: bytes, times: int) -> int:
     """A number in whole micrometres, of which its unit has so many."""
     digits, decimals = number(word)
-    found = rounded(2 * digits * times, 10 ** decimals)
+    found = _rounded(2 * digits * times, 10 ** decimals)
     if abs(found) > FARTHEST:
         raise Fault(NOT_READ, f"{front(word)!r} is out of range")
     return found

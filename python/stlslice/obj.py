@@ -28,7 +28,10 @@ def read_obj(source: Source, unit: Unit = "mm", progress: Progress = None) -> Ar
     """
     points, triangles = array("i"), array("I")
     times = FACTORS[_choice("unit", unit, Unit)]
-    for at, (word, *words) in _lines_of(io.BytesIO(_bytes(source)), progress):
+    data = _bytes(source)
+    if re.search(rb"\r(?!\n)|\A\xef\xbb\xbf", data):
+        data = re.sub(rb"\r(?!\n)", b"\n", re.sub(rb"\A\xef\xbb\xbf", b"", data))
+    for at, (word, *words) in _lines_of(io.BytesIO(data), progress):
         try:
             if word == b"v":
                 points.extend([in_micrometres(it, times) for it in words[:3]])

@@ -7,11 +7,11 @@ import struct
 import zipfile
 import zlib
 from array import array
-from typing import IO, Callable, Dict, Iterator, List, Optional, Sequence, Tuple
+from typing import Callable, Dict, Iterator, List, Optional, Sequence, Tuple
 from xml.parsers import expat
 
-from . import NOT_READ, Arrays, Fault, FormatFault, Progress, Source, _bytes
-from ._exact import FARTHEST, cross, dot, number, refuse_if, rounded
+from . import NOT_READ, Arrays, Fault, FormatFault, Progress, Source, _bytes, _rounded
+from ._exact import FARTHEST, cross, dot, number, refuse_if
 
 FACETS = 1_048_576  # of a mesh, at most
 CORE = "http://schemas.microsoft.com/3dmanufacturing/core/2015/02 "
@@ -27,9 +27,11 @@ BLOCK = 1 << 16  # bytes of XML that are read at once
 CONFIG = 1 << 24  # bytes of such a file
 LARGEST, SMALL, RATIO = 1 << 28, 1 << 20, 100  # bytes of an entry; above SMALL it has at most RATIO times its packed bytes
 WORD = 1 << 20  # bytes of XML without an event, and of the relationships
+ELEMENTS = 300_000  # of an entry; above them it has at most one for each packed byte
+OBJECTS = 10_000  # of a model
 ENTRIES = 10_000  # of a zip
 NESTED, DEEPEST = 64, 16  # elements of XML, and components, in each other
-DECIMALS = 150  # of a number, or of transforms in each other
+DECIMALS, POINT = 150, 50  # of transforms in each other, and of a number of a point
 TRANSFORM = 40  # bytes of a number of a transform
 PLACED = 100  # facets that take as long as placing an object
 DAMAGED = (zipfile.BadZipFile, zlib.error, struct.error, expat.ExpatError, EOFError, RuntimeError, ValueError, LookupError)
@@ -63,14 +65,14 @@ def _reading(data: bytes, model: "_Model", points: "array[int]", triangles: "arr
         refuse_if(data.count(b"PK\1\2") > ENTRIES, f"it has more than {ENTRIES:,} entries")
         with zipfile.ZipFile(io.BytesIO(data)) as archive:
             for name in CONFIGS:
-                if name in archive.namelist() and NO_BODY.search(_opened(archive, name, CONFIG, CONFIG).read()):
+                if name in archive.namelist() and NO_BODY.search(archive.read(_entry(archive, name, CONFIG, CONFIG))):
                     raise FormatFault(NOT_READ, "the 3MF has volumes that are none of the part, such as modifiers")
-            yield from _fed(_opened(archive, _model_of(archive)), model.start, model.end)
+            yield from _fed(archive, _entry(archive, _model_of(archive)), model.start, model.end)
             model.items.place(([[model.unit * (k == j) for k in range(4)] for j in range(3)], 0), points, triangles)
     except FormatFault:
         raise
     except (Fault, *DAMAGED) as fault:
-        why = f"{fault.args[0]} is missing" if isinstance(fault, KeyError) else str(fault)
+        why = f"{fault.args[0]} is missing" if isinstance(fault, KeyError) else str(fault) or "an entry is cut"
         raise Fault(NOT_READ, f"the 3MF can't be read: {why[:200]}") from None
 
 
@@ -82,14 +84,14 @@ def _model_of(archive: zipfile.ZipFile) -> str:
         if words.get("Type") == MODEL:
             found.append(words["Target"].lstrip("/"))
 
-    for _ in _fed(_opened(archive, "_rels/.rels", WORD), start):
+    for _ in _fed(archive, _entry(archive, "_rels/.rels", WORD), start):
         pass
     refuse_if(len(found) != 1, "its relationships name no model, or several")
     return found[0]
 
 
-def _opened(archive: zipfile.ZipFile, name: str, most: int = LARGEST, small: int = SMALL) -> IO[bytes]:
-    """An entry's bytes. One that is too large, or packed far better than a mesh is, is refused."""
+def _entry(archive: zipfile.ZipFile, name: str, most: int = LARGEST, small: int = SMALL) -> zipfile.ZipInfo:
+    """An entry of the zip. One that is too large, or packed far better than a mesh is, is refused."""
     entries = [it for it in archive.infolist() if it.filename == name]
     refuse_if(len(entries) != 1, f"it has {name} {len(entries)} times")
     it, = entries
@@ -97,22 +99,27 @@ def _opened(archive: zipfile.ZipFile, name: str, most: int = LARGEST, small: int
               f"{name} is too large: {it.compress_size:,} bytes that unpack to {it.file_size:,}")
     is_other = it.compress_type not in (zipfile.ZIP_STORED, zipfile.ZIP_DEFLATED)
     refuse_if(is_other, f"{name} is packed in another way than by deflate")
-    return archive.open(it)
+    return it
 
 
-def _fed(stream: IO[bytes], start: Callable[[str, Words], None], end: Callable[[str], None] = lambda name: None) -> Iterator[int]:
-    """Calls `start` and `end` for each element of the XML, and tells how many bytes are read. A document type, and with it
+def _fed(archive: zipfile.ZipFile, entry: zipfile.ZipInfo, start: Callable[[str, Words], None],
+         end: Callable[[str], None] = lambda name: None) -> Iterator[int]:
+    """Calls `start` and `end` for each element of an entry's XML, and tells how many bytes are read. A document type, and with it
     entities, is refused."""
     above: List[str] = []
-    count, parser = 0, expat.ParserCreate(namespace_separator=" ")
+    count, parser, left = 0, expat.ParserCreate(namespace_separator=" "), max(ELEMENTS, entry.compress_size)
 
     def began(name: str, words: Words) -> None:
+        nonlocal left
+        left -= 1
+        refuse_if(left < 0, f"it has more than {ELEMENTS:,} elements, and more than packed bytes")
         above.append(name)
         refuse_if(len(above) > NESTED, "its XML is nested too deeply")
         start(name, words)
 
     parser.StartElementHandler, parser.EndElementHandler = began, lambda _: end(above.pop())
     parser.StartDoctypeDeclHandler = lambda *_: refuse_if(True, "its XML has a document type")
+    stream = archive.open(entry)
     for block in iter(lambda: stream.read(BLOCK), b""):
         count += len(block)
         parser.Parse(block)
@@ -154,6 +161,7 @@ class _Model:
     def take_object(self, words: Words) -> None:
         id = words["id"]
         refuse_if(self.object or id in self.objects, f"object {id[:20]} stands twice, or in another")
+        refuse_if(len(self.objects) == OBJECTS, f"it has more than {OBJECTS:,} objects")
         self.object = self.objects[id] = _Object(id[:20], words.get("type", "model"))
 
     def take_vertex(self, words: Words) -> None:
@@ -206,7 +214,7 @@ class _Object:
                 digits.append(own[0])
                 decimals.append(own[1])
         most = max(decimals, default=0)
-        _refuse_decimals(most)
+        _refuse_decimals(most, POINT)
         for at, own in enumerate(decimals):
             if own < most:
                 digits[at] *= 10 ** (most - own)
@@ -224,7 +232,7 @@ class _Object:
         for k, row in enumerate(rows):
             a, b, c, d = (2 * it for it in row)
             d *= 10 ** own
-            places = [rounded(a * x + b * y + c * z + d, one) for x, y, z in zip(*sides)]
+            places = [_rounded(a * x + b * y + c * z + d, one) for x, y, z in zip(*sides)]
             is_far = places and not -FARTHEST <= min(places) <= max(places) <= FARTHEST
             refuse_if(is_far, f"object {self.id} reaches beyond 128 m from the origin")
             block[k::3] = array("i", places)
@@ -263,9 +271,9 @@ def _transform_of(text: str) -> Transform:
     return rows, decimals
 
 
-def _refuse_decimals(count: int) -> None:
+def _refuse_decimals(count: int, most: int = DECIMALS) -> None:
     """Refuses more decimals than any program writes, since they take long."""
-    if count > DECIMALS:
+    if count > most:
         raise FormatFault(NOT_READ, f"the 3MF has numbers, or transforms in each other, of {count} decimals")
 
 

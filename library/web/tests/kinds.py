@@ -53,7 +53,7 @@ def bodies():
     with open(example("bracket"), "rb") as file:
         text = file.read()
     return {
-        "part.3mf": zipped("[Content_Types].xml"), "part.zip": zipped("part.stl"), "part.stl.gz": gzip.compress(text),
+        "part.3mf": zipped("_rels/.rels"), "part.zip": zipped("part.stl"), "part.stl.gz": gzip.compress(text),
         "packed.stl": gzip.compress(text), "other.stl": b"\nvn 0 0 1\n",
         "my part.obj": b"# by hand\nv 0 0 0\n", "part.ply": b"ply\nformat ascii 1.0\n", "part.off": b"OFF\n8 6 0\n",
         "part.amf": b'\xef\xbb\xbf<?xml version="1.0"?>\n<!DOCTYPE amf>\n<amf unit="millimeter">',
@@ -101,7 +101,7 @@ def try_kinds(page, room):
 
 # What the beginnings of files are put together of, with all that the commands look for
 PIECES = [*(it.encode() for it in (
-    "PK\3\4", "[Content_Types].xml", "_rels/", "3D/", "Metadata/", "ply", "ST", "C", "N", "4", "n", "OFF", "off", "v", "vn", "vt", "vp",
+    "PK\3\4", "[Content_Types].xml", "_rels/", ".rels", "3D/", "ply", "ST", "C", "N", "4", "n", "OFF", "off", "v", "vn", "vt", "vp",
     "f", "o", "g", "s", "mtllib", "usemtl", "<?xml?>", "<!DOCTYPE amf>", "<!-- > -->", "<amf", "<AMF", ">", "#", "solid", "0", "\0", " ",
     "\t", "\n", "\r", "\v", "\f")), b"\x1f\x8b", b"\xef\xbb\xbf", b"\xa0", b"\xff\xfe", bytes(100), bytes(17)]
 

@@ -31,7 +31,7 @@ def broken(room):
 def other_kind(room):
     path = os.path.join(room, "a long name of a part.3mf")
     with open(path, "wb") as file:
-        file.write(b"PK\3\4" + bytes(26) + b"[Content_Types].xml" + bytes(100))
+        file.write(b"PK\3\4" + bytes(26) + b"_rels/.rels" + bytes(100))
     return path
 
 
