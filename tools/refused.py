@@ -1,10 +1,11 @@
 #!/usr/bin/env python3
-"""Reads what `rt ci` or `rt must-fail` says of the edits. It fails if something else refuses one than a clause or an invariant,
-and refused_otherwise.txt, beside it, does not say why.
+"""Reads what `rt ci` or `rt must-fail` says of all edits. It fails if nothing is said of one, or if something else refuses one
+than a clause or an invariant, and refused_otherwise.txt, beside it, does not say why.
 
-    rt must-fail | tools/refused.py [--list] [FILE..]     at the top; --list: of each edit the function that is not proved, the
-                                                          edit's name and the goal, and whether the name is another function's"""
+    rt must-fail | tools/refused.py [--list] [FILE..]     at the top; --list: of each edit the function that is not proved, its
+                                                          name, the goal, and whether the name is another function's"""
 import fileinput
+import glob
 import re
 import sys
 
@@ -12,7 +13,7 @@ TOLD = re.compile(r"rt: must-fail (\w+)/(\S+)\.edit: (refused)?[^:\n]*:? ?(.*)")
 ANSWER = re.compile(r"\./proofs/(\S+)/Answers\.antt:\d+:\d+: error: `([^`]+)`")
 CODE = re.compile(r"note: (src/\S+):(\d+):\d+: (?:it is not proved that|`search` found no proof) (.*)")
 # `rt` cuts what it quotes: where the goal's name is gone, the sentence says what it is
-CLAUSE = re.compile(r"returns|invariant_of|loop-(?!.*smaller)|\w+-(init|preserved)\b|what the function ensures|the `?invariant")
+CLAUSE = re.compile(r"returns|invariant_of|loop-\S+-(init|preserved)\b|what the function ensures|the `?invariant")
 
 
 def function_at(file, row):
@@ -24,17 +25,16 @@ def function_at(file, row):
 
 
 otherwise = open(f"{sys.path[0]}/refused_otherwise.txt", encoding="utf-8").read()
-text = "".join(fileinput.input([it for it in sys.argv[1:] if it != "--list"]))
-failed, told = re.findall(r"rt: (crates/\S+: BAD EDIT.*)", text), TOLD.findall(text)
+told = TOLD.findall("".join(fileinput.input([it for it in sys.argv[1:] if it != "--list"])))
+names = {it.replace("/must-fail", "")[7:-5] for it in glob.glob("crates/*/must-fail/*.edit")}
+failed = [f"{it}: nothing is said of it" for it in sorted(names.difference(f"{crate}/{edit}" for crate, edit, *_ in told))]
 for crate, edit, is_refused, said in told:
     answer, code = ANSWER.match(said), CODE.match(said)
     goal = answer[2] if answer else [*re.findall(r"\(`([^`]+)", code[3]), code[3]][0] if code else said
-    is_listed = f"\n{crate}/{edit}: " in otherwise
-    if not is_refused or is_listed == bool((answer or code) and CLAUSE.match(goal)):
+    if not is_refused or (f"\n{crate}/{edit}: " in otherwise) == bool((answer or code) and CLAUSE.match(goal)):
         failed.append(f"{crate}/{edit}: {said}")
     if "--list" in sys.argv:
         place = answer[1].replace("/", "::") if answer else function_at(f"crates/{crate}/{code[1]}", int(code[2])) if code else "?"
-        other = "" if edit.split(".")[-2] == place.split("::")[-1] else "  (of another function)"
-        print(f"{crate}::{place}  {edit}  {goal}{other}")
-print(*failed, f"edits refused by a clause or an invariant, or listed: {len(told) - len(failed)}; not: {len(failed)}", sep="\n")
-sys.exit(bool(failed or not told))
+        print(f"{crate}::{place}  {edit}  {goal}" + "  (of another function)" * (edit.split(".")[-2] != place.split("::")[-1]))
+print(*failed, f"of {len(names)} edits neither refused by a clause or an invariant, nor listed: {len(failed)}", sep="\n")
+sys.exit(bool(failed))
