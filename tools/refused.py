@@ -13,7 +13,7 @@ TOLD = re.compile(r"rt: must-fail (\w+)/(\S+)\.edit: (refused)?[^:\n]*:? ?(.*)")
 ANSWER = re.compile(r"\./proofs/(\S+)/Answers\.antt:\d+:\d+: error: `([^`]+)`")
 CODE = re.compile(r"note: (src/\S+):(\d+):\d+: (?:it is not proved that|`search` found no proof) (.*)")
 # `rt` cuts what it quotes: where the goal's name is gone, the sentence says what it is
-CLAUSE = re.compile(r"returns|invariant_of|loop-\S+-(init|preserved)\b|what the function ensures|the `?invariant")
+CLAUSE = re.compile(r"returns|invariant_of|loop-(\S+-)?(init|preserved)\b|what the function ensures|the `?invariant")
 
 
 def function_at(file, row):
