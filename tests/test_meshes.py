@@ -224,7 +224,7 @@ class ThreeMfs(Case):
                 (changed(' z="0"', ""), "z is missing"), (changed('x="10"', 'x="nan"'), "'nan' is not a number"),
                 *((changed('v1="0"', f'v1="{at}"'), "a triangle has an index that is no number")
                   for at in ("1_0", "+1", "-1", "\u0661", "1 2", "", " ")),
-                *((changed('x="10"', f'x="{blank}"'), "a vertex has a coordinate that is not a number")
+                *((changed('x="10"', f'x="{blank}"'), "a vertex has a coordinate that is not a number of at most 60 bytes")
                   for blank in ("", " ", "1 2")),
                 (model(words='unit=""'), "there is no unit ''"), (model(items=placed("")), "a transform hasn't twelve numbers "
                                                                   "of at most 40 bytes"),
@@ -267,9 +267,10 @@ def hostile_models():
     yield "items", model(items=500_000 * '<item objectid="1"/>')
     draw = random.Random(3)
     yield "empty elements", model().replace("<resources>", "<resources>" + "".join(draw.choices(("<a/>", "<b/>"), k=1_000_000)))
-    small = lines(CORNER, zip(*[(f"{draw.randrange(100)}e-149" for _ in range(120_000))] * 3))
-    faces = 40_000 * TRIANGLE
-    yield "decimals", model(f'<object id="1"><mesh><vertices>{small}</vertices><triangles>{faces}</triangles></mesh></object>')
+    yield "names", model().replace("<resources>", "<resources>" + lines("<a%d/>", [(k,) for k in range(290_000)]))
+    for name, number in (("decimals", "%de-149"), ("powers", "%de295"), ("zeros", 200 * "0" + "%d")):
+        cloud = lines(CORNER, zip(*[(number % draw.randrange(100) for _ in range(90_000))] * 3))
+        yield name, model(f'<object id="1"><mesh><vertices>{cloud}</vertices><triangles>{30_000 * TRIANGLE}</triangles></mesh></object>')
     yield "empty objects", model(lines('<object id="%s"/>', [(k,) for k in range(100_000)]))
     for count, faces, items in ((30_000, 10_000, 12), (12_000, 12_000, 85), (3000, 1000, 180)):
         often = f"<mesh><vertices>{count * VERTEX}</vertices><triangles>{faces * TRIANGLE}</triangles></mesh>"
@@ -283,6 +284,7 @@ def hostile_files():
     for name, body in hostile_models():
         yield name, packed(body)
     yield "backslashes", b"v 0 0 0\n" + b"\\\n" * 400_000
+    yield "returns", b"p\r" * 1_000_000
     yield "a face", b"v 0 0 0\nf" + b" 1" * 500_000
     yield "entries", zip_of([("_rels/.rels", RELATIONSHIPS), *((str(k), "") for k in range(60_000))])
     whole = packed(model())

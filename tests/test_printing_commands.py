@@ -367,7 +367,7 @@ class Commands(Case):
                             (bytes(80) + count.to_bytes(4, "little") + bytes(50 * count), f": {count}")):
             said = self.refusal(3, *SCREEN, self.room.put("part.stl", body))
             assert re.fullmatch(rf"stlslice: too many facets{place}\nstlslice-sl1: a mesh has at most 1,048,576 facets; "
-                                r"--shells slices a larger part shell by shell, if it has several\n", said), said
+                                r"--shells slices a larger part in groups of shells, if it has several\n", said), said
 
 
 class Terminals(Case):

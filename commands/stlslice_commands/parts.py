@@ -10,7 +10,7 @@ import stlslice
 from . import formats
 from .faults import Progress, Refused, in_mm, named, refuse_if, say
 
-SHELLS = "a mesh has at most 1,048,576 facets; --shells slices a larger part shell by shell, if it has several"
+SHELLS = "a mesh has at most 1,048,576 facets; --shells slices a larger part in groups of shells, if it has several"
 NO_FACETS = "the part has no facets"
 OPEN = 4  # the library's status if a mesh is open
 ONE_VOXEL = {"pitch": 1000, "layer": 1000, "grid": (1, 1, 1, 0, 0, 0)}

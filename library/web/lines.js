@@ -4,7 +4,7 @@ const REFUSED = 1, NO_STL = 3; // statuses
 const RULES = ["evenodd", "nonzero", "positive"], UNITS = ["mm", "inch", "cm", "m"];
 const MOST_UNIT = 1; // that the program itself takes
 const NOTHING_LEFT = "no facet is left", NO_FACETS = "the part has no facets"; // the program's line, and the command's
-const MANY_FACETS = "a mesh has at most 1,048,576 facets; --shells slices a larger part shell by shell, if it has several";
+const MANY_FACETS = "a mesh has at most 1,048,576 facets; --shells slices a larger part in groups of shells, if it has several";
 
 const in_mm = (lengths) => lengths.map((it) => fixed(it / 1000, 3)).join(" x ");
 const size_between = ({ low, high }) => high.map((it, axis) => it - low[axis]);

@@ -29,8 +29,10 @@ def read_obj(source: Source, unit: Unit = "mm", progress: Progress = None) -> Ar
     points, triangles = array("i"), array("I")
     times = FACTORS[_choice("unit", unit, Unit)]
     data = _bytes(source)
-    if re.search(rb"\r(?!\n)|\A\xef\xbb\xbf", data):
-        data = re.sub(rb"\r(?!\n)", b"\n", re.sub(rb"\A\xef\xbb\xbf", b"", data))
+    if re.search(rb"\r(?!\n)", data):
+        data = data.replace(b"\r\n", b"\n").replace(b"\r", b"\n")
+    if data.startswith(b"\xef\xbb\xbf"):
+        data = data[3:]
     for at, (word, *words) in _lines_of(io.BytesIO(data), progress):
         try:
             if word == b"v":

@@ -31,8 +31,10 @@ ELEMENTS = 300_000  # of an entry; above them it has at most one for each packed
 OBJECTS = 10_000  # of a model
 ENTRIES = 10_000  # of a zip
 NESTED, DEEPEST = 64, 16  # elements of XML, and components, in each other
+NAMES = 1000  # of elements and attributes
 DECIMALS, POINT = 150, 50  # of transforms in each other, and of a number of a point
-TRANSFORM = 40  # bytes of a number of a transform
+DIGITS = 40  # before the point; and decimals that make placing points take as long again
+TRANSFORM, COORDINATE = 40, 60  # bytes of a number of a transform, and of a point
 PLACED = 100  # facets that take as long as placing an object
 DAMAGED = (zipfile.BadZipFile, zlib.error, struct.error, expat.ExpatError, EOFError, RuntimeError, ValueError, LookupError)
 
@@ -113,6 +115,7 @@ def _fed(archive: zipfile.ZipFile, entry: zipfile.ZipInfo, start: Callable[[str,
         nonlocal left
         left -= 1
         refuse_if(left < 0, f"it has more than {ELEMENTS:,} elements, and more than packed bytes")
+        refuse_if(len(parser.intern) > NAMES, f"it has more than {NAMES:,} names of elements and attributes")
         above.append(name)
         refuse_if(len(above) > NESTED, "its XML is nested too deeply")
         start(name, words)
@@ -148,7 +151,7 @@ class _Model:
             is_wrong = max(it.triangles, default=0) >= max(1, count)
             refuse_if(is_wrong, f"object {it.id} has a triangle with a point that it hasn't")
             refuse_if(count > len(it.triangles) + PLACED, f"object {it.id} has {count:,} points, more than its triangles can have")
-            it.points += count
+            it.points, it.decimals = it.points + count, max(it.decimals, it.numbers[1])
             self.points += count
 
     def take_model(self, words: Words) -> None:
@@ -166,7 +169,8 @@ class _Model:
 
     def take_vertex(self, words: Words) -> None:
         places = [words[axis].encode().split() for axis in "xyz"]
-        refuse_if(any(len(it) != 1 for it in places), "a vertex has a coordinate that is not a number")
+        is_wrong = any(len(it) != 1 or len(it[0]) > COORDINATE for it in places)
+        refuse_if(is_wrong, f"a vertex has a coordinate that is not a number of at most {COORDINATE} bytes")
         self.object.lines += b" ".join(it[0] for it in places) + b"\n"
 
     def take_triangle(self, words: Words) -> None:
@@ -186,21 +190,24 @@ class _Model:
         refuse_if(not found or found is self.object, f"there is no object {id[:20]} before what refers to it")
         if found.type not in ("model", "solidsupport", "support"):
             raise FormatFault(NOT_READ, f"the 3MF builds an object of the type {found.type[:20]}")
-        holder.components.append((found, _transform_of(words.get("transform", IDENTITY))))
+        transform = _transform_of(words.get("transform", IDENTITY))
+        holder.components.append((found, transform))
         holder.cost += PLACED + found.cost
         holder.points += found.points
+        holder.decimals = max(holder.decimals, found.decimals + transform[1])
         holder.depth = max(holder.depth, found.depth + 1)
         refuse_if(holder.cost > self.most, f"it has more than {self.most:,} facets, or too many objects")
-        refuse_if(holder.points > self.most // 2 + self.points, f"its objects are placed so often that they have {holder.points:,} points")
+        is_often = holder.points * (1 + holder.decimals // DIGITS) > self.most // 2 + self.points
+        refuse_if(is_often, f"its objects are placed so often that they have {holder.points:,} points")
         refuse_if(holder.depth > DEEPEST, "its components are too deep in each other")
 
 
 class _Object:
     """A mesh, of points as texts, and other objects with their transforms. `cost` counts triangles, and PLACED for each object in
-    it, each as often as it is placed, and `points` counts points so."""
+    it, each as often as it is placed, and `points` counts points so; `decimals` are the most of their coordinates."""
 
     def __init__(self, id: str, type: str) -> None:
-        self.id, self.type, self.cost, self.points, self.depth = id, type, 0, 0, 1
+        self.id, self.type, self.cost, self.points, self.decimals, self.depth = id, type, 0, 0, 0, 1
         self.lines, self.triangles = bytearray(), array("I")
         self.components: List[Tuple[_Object, Transform]] = []
 
@@ -211,10 +218,11 @@ class _Object:
         for line in io.BytesIO(self.lines):
             for word in line.split():
                 own = number(word)
+                refuse_if(abs(own[0]) >= 10 ** (own[1] + DIGITS), "a vertex is too far from the origin")
+                _refuse_decimals(own[1], POINT)
                 digits.append(own[0])
                 decimals.append(own[1])
         most = max(decimals, default=0)
-        _refuse_decimals(most, POINT)
         for at, own in enumerate(decimals):
             if own < most:
                 digits[at] *= 10 ** (most - own)

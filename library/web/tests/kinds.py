@@ -101,7 +101,7 @@ def try_kinds(page, room):
 
 # What the beginnings of files are put together of, with all that the commands look for
 PIECES = [*(it.encode() for it in (
-    "PK\3\4", "[Content_Types].xml", "_rels/", ".rels", "3D/", "ply", "ST", "C", "N", "4", "n", "OFF", "off", "v", "vn", "vt", "vp",
+    "PK\3\4", "[Content_Types].xml", "_rels/.rels", "_rels/", "3D/", "ply", "ST", "C", "N", "4", "n", "OFF", "off", "v", "vn", "vt", "vp",
     "f", "o", "g", "s", "mtllib", "usemtl", "<?xml?>", "<!DOCTYPE amf>", "<!-- > -->", "<amf", "<AMF", ">", "#", "solid", "0", "\0", " ",
     "\t", "\n", "\r", "\v", "\f")), b"\x1f\x8b", b"\xef\xbb\xbf", b"\xa0", b"\xff\xfe", bytes(100), bytes(17)]
 
