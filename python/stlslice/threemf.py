@@ -208,6 +208,7 @@ class _Object:
 
     def __init__(self, id: str, type: str) -> None:
         self.id, self.type, self.cost, self.points, self.decimals, self.depth = id, type, 0, 0, 0, 1
+        self.far = f"object {id} reaches beyond 128 m from the origin"
         self.lines, self.triangles = bytearray(), array("I")
         self.components: List[Tuple[_Object, Transform]] = []
 
@@ -218,7 +219,7 @@ class _Object:
         for line in io.BytesIO(self.lines):
             for word in line.split():
                 own = number(word)
-                refuse_if(abs(own[0]) >= 10 ** (own[1] + DIGITS), "a vertex is too far from the origin")
+                refuse_if(abs(own[0]) >= 10 ** (own[1] + DIGITS), self.far)
                 _refuse_decimals(own[1], POINT)
                 digits.append(own[0])
                 decimals.append(own[1])
@@ -242,7 +243,7 @@ class _Object:
             d *= 10 ** own
             places = [_rounded(a * x + b * y + c * z + d, one) for x, y, z in zip(*sides)]
             is_far = places and not -FARTHEST <= min(places) <= max(places) <= FARTHEST
-            refuse_if(is_far, f"object {self.id} reaches beyond 128 m from the origin")
+            refuse_if(is_far, self.far)
             block[k::3] = array("i", places)
         points.extend(block)
         if _volume(rows) < 0:
