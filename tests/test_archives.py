@@ -232,7 +232,8 @@ WRONG = {
     "--canvas=2560": "it takes COLUMNSxROWS, each 1 to 99999, as in 2560x1620", "--layer=0.05": WHOLE,
     "--workers=65": "it takes a whole number, 1 to 64",
     "--pitch=0": "it takes micrometres above 0 and below 1000000, with at most three digits after the point, as 50, 47.25 "
-                 "or 19x24", "--height=0": "it takes millimetres above 0 and below 1000000, as 150 or 149.5",
+                 "or 19x24",
+    "--height=0": "it takes millimetres above 0 and below 1000000, as 150 or 149.5",
     "--exposure=0": SECONDS, "--first-exposure=-2": SECONDS, "--fade=1000": "it takes a whole number, 0 to 999",
     "--turn=half": "it takes auto, or no value", "--turn=quarter": "it takes auto, or no value",
     "--rule=xor": "invalid choice: 'xor'", "--unit=foot": "invalid choice: 'foot'", "--depth=2": "it takes 1 or 8"}

@@ -112,9 +112,8 @@ class Commands(Case):
                     (["--printer", "SL1S", "--mirror-x", part], brings + "--mirror-x"),
                     (["--printer", "SL1S", "--height", "9", part], brings + "--height")):
                 wrong_words(self.room, line, command, *words, "out")
-            other = os.path.dirname(self.room.put("printers.py", "1 / 0"))  # a module of this name that is not ours
-            env = self.room.with_env(STLSLICE_LIBRARY="/none", PYTHONPATH=f"{other}:{self.room.environment.get('PYTHONPATH', '')}")
-            told = self.room.out(command, "--printer", "help", env=env)
+            self.room.put("printers.py", "1 / 0")  # a module of this name that is not ours
+            told = self.room.out(command, "--printer", "help", env=self.room.with_env(STLSLICE_LIBRARY="/none", PYTHONPATH=self.room.path))
             for word in ("SL1S  Original Prusa SL1S SPEED: 2560 x 1620 pixels, 128 x 81 x 150 mm\n    "
                          "from PrusaSlicer 2.5.0", "SL1  Original"):
                 assert word in told, told

@@ -36,5 +36,5 @@ for crate, edit, is_refused, said in told:
     if "--list" in sys.argv:
         place = answer[1].replace("/", "::") if answer else function_at(f"crates/{crate}/{code[1]}", int(code[2])) if code else "?"
         print(f"{crate}::{place}  {edit}  {goal}" + "  (of another function)" * (edit.split(".")[-2] != place.split("::")[-1]))
-print(*failed, f"of {len(names)} edits neither refused by a clause or an invariant, nor listed: {len(failed)}", sep="\n")
-sys.exit(bool(failed))
+print(*failed, f"edits: {len(names)}; not refused by a clause or an invariant, nor listed: {len(failed)}", sep="\n")
+sys.exit(bool(failed or not told))

@@ -8,7 +8,7 @@ import shlex
 # Each was tried. {0} is the file, {1} the STL to make.
 CONVERTED = {"3MF": "prusa-slicer --export-stl --output {1} {0}", "zip": "unzip {0}", "gzip": "zcat {0} > {1}"}
 ASSIMP = "assimp export {0} {1}"  # of all others
-END = 1 << 16  # bytes
+END = 1 << 16  # bytes at each end of a file, which tell its kind
 KINDS = {
     "PLY": re.compile(rb"ply\s"),
     "OFF": re.compile(rb"(?:\s|#[^\n]*\n)*(?:ST)?C?N?4?n?OFF\s"),

@@ -59,7 +59,7 @@ class Listing(argparse.Action):
     """`--printer help` lists the printers and ends; another word has to be a model of the list."""
 
     def __call__(self, parser, given, word, option=None):
-        # only here, since each start reads what it imports anew; and the table alone, since the module needs its library
+        # here, so that others start faster; the table alone, as the module needs its library; __import__ tells if that is missing
         sys.path.insert(0, (find_spec("stlslice") or __import__("stlslice").__spec__).submodule_search_locations[0])
         from printers import listed, printers
         if word == "help":

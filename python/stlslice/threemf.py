@@ -33,7 +33,8 @@ ENTRIES = 10_000  # of a zip
 NESTED, DEEPEST = 64, 16  # elements of XML, and components, in each other
 NAMES = 1000  # of elements and attributes
 DECIMALS, POINT = 150, 50  # of transforms in each other, and of a number of a point
-DIGITS = 40  # before the point; and decimals that make placing points take as long again
+BITS = 200  # of a coordinate's digits, more than COORDINATE bytes have without an exponent
+SLOW = 40  # decimals with which placing points takes as long again
 TRANSFORM, COORDINATE = 40, 60  # bytes of a number of a transform, and of a point
 PLACED = 100  # facets that take as long as placing an object
 DAMAGED = (zipfile.BadZipFile, zlib.error, struct.error, expat.ExpatError, EOFError, RuntimeError, ValueError, LookupError)
@@ -151,7 +152,7 @@ class _Model:
             is_wrong = max(it.triangles, default=0) >= max(1, count)
             refuse_if(is_wrong, f"object {it.id} has a triangle with a point that it hasn't")
             refuse_if(count > len(it.triangles) + PLACED, f"object {it.id} has {count:,} points, more than its triangles can have")
-            it.points, it.decimals = it.points + count, max(it.decimals, it.numbers[1])
+            it.points += count
             self.points += count
 
     def take_model(self, words: Words) -> None:
@@ -194,21 +195,20 @@ class _Model:
         holder.components.append((found, transform))
         holder.cost += PLACED + found.cost
         holder.points += found.points
-        holder.decimals = max(holder.decimals, found.decimals + transform[1])
+        holder.decimals = max(holder.decimals, max(found.decimals, found.numbers[1]) + transform[1])
         holder.depth = max(holder.depth, found.depth + 1)
         refuse_if(holder.cost > self.most, f"it has more than {self.most:,} facets, or too many objects")
-        is_often = holder.points * (1 + holder.decimals // DIGITS) > self.most // 2 + self.points
+        is_often = holder.points * (1 + holder.decimals // SLOW) > self.most // 2 + self.points
         refuse_if(is_often, f"its objects are placed so often that they have {holder.points:,} points")
         refuse_if(holder.depth > DEEPEST, "its components are too deep in each other")
 
 
 class _Object:
     """A mesh, of points as texts, and other objects with their transforms. `cost` counts triangles, and PLACED for each object in
-    it, each as often as it is placed, and `points` counts points so; `decimals` are the most of their coordinates."""
+    it, each as often as it is placed, and `points` counts points so. `decimals` are the most of a coordinate of another object in it."""
 
     def __init__(self, id: str, type: str) -> None:
         self.id, self.type, self.cost, self.points, self.decimals, self.depth = id, type, 0, 0, 0, 1
-        self.far = f"object {id} reaches beyond 128 m from the origin"
         self.lines, self.triangles = bytearray(), array("I")
         self.components: List[Tuple[_Object, Transform]] = []
 
@@ -219,8 +219,9 @@ class _Object:
         for line in io.BytesIO(self.lines):
             for word in line.split():
                 own = number(word)
-                refuse_if(abs(own[0]) >= 10 ** (own[1] + DIGITS), self.far)
-                _refuse_decimals(own[1], POINT)
+                if own[1] > POINT or own[0].bit_length() > BITS:
+                    _refuse_decimals(own[1], POINT)
+                    self.refuse_far(True)
                 digits.append(own[0])
                 decimals.append(own[1])
         most = max(decimals, default=0)
@@ -232,6 +233,9 @@ class _Object:
         except OverflowError:
             return digits, most
 
+    def refuse_far(self, is_far: bool) -> None:
+        refuse_if(is_far, f"object {self.id} reaches beyond 128 m from the origin")
+
     def place(self, transform: Transform, points: "array[int]", triangles: "array[int]") -> None:
         """Adds the points and the triangles, by a transform to micrometres. A mirror image is turned inside out again."""
         (rows, decimals), (flat, own) = transform, self.numbers
@@ -242,8 +246,8 @@ class _Object:
             a, b, c, d = (2 * it for it in row)
             d *= 10 ** own
             places = [_rounded(a * x + b * y + c * z + d, one) for x, y, z in zip(*sides)]
-            is_far = places and not -FARTHEST <= min(places) <= max(places) <= FARTHEST
-            refuse_if(is_far, self.far)
+            is_far = bool(places) and not -FARTHEST <= min(places) <= max(places) <= FARTHEST
+            self.refuse_far(is_far)
             block[k::3] = array("i", places)
         points.extend(block)
         if _volume(rows) < 0:
