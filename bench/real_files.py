@@ -57,7 +57,7 @@ def facets_of(data, kind):
 def compared(program, path, out):
     """The kind of a file; and how many layers are the program's, or why it is refused, or what is wrong."""
     data = parts.read(path)
-    kind = "binary STL" if formats.is_binary(len(data), data[:84]) else formats.kind_of(data[:1024]) or "ASCII STL"
+    kind = "binary STL" if formats.is_binary(len(data), data[:84]) else formats.kind_of(data) or "ASCII STL"
     facets = facets_of(data, None if "STL" in kind else kind)
     sides = [max(it) - min(it) for it in zip(*(corner for facet in facets for corner in facet))] or [0, 0, 0]
     pitch, layer = (min(side // count + 1, 100_000) for side, count in ((max(sides[:2]), 200), (sides[2], 25)))

@@ -1,7 +1,6 @@
 """What the tests share: the program, a room for each test, comparing, and what can't be tried here.
 
-A test file is tests/test_*.py: its classes are of `Case`, and each method test_* is a test, named after what holds.
-"""
+A test file is tests/test_*.py: its classes are of `Case`, and each method test_* is a test, named after what holds."""
 
 import atexit
 import functools

@@ -204,14 +204,11 @@ class ThreeMfs(Case):
         same(found[:3], ([-20_000, 0, 0], [10_000, 110_000, 30_000], 36), "three boxes")
 
     def test_what_another_tool_may_take(self):
-        volume = '<metadata type="volume" key="volume_type" value="{}"/>'.format
-        configs = [("Metadata/Slic3r_PE_model.config", volume(word))
-                   for word in ("ParameterModifier", "NegativeVolume", "SupportBlocker")]
+        configs = [(threemf.CONFIGS[0], bytes(threemf.BLOCK - 5) + it) for it in threemf.NO_BODY]
+        surface = model(f'<object id="1" type="surface">{MESH}</object>')
         for (body, *more), line in (([model(words='requiredextensions="p"')], "needs the extensions 'p'"),
-                                    ([model(f'<object id="1" type="surface">{MESH}</object>')],
-                                     "builds an object of the type surface"),
-                                    *(([model(), it], "has volumes that are none of the part, such as modifiers")
-                                      for it in configs)):
+                ([surface], "builds an object of the type surface"),
+                *(([model(), it], "has volumes that are none of the part, such as modifiers") for it in configs)):
             same(refusal(read_3mf, body, *more), f"FormatFault: the 3MF {line}", str(more))
 
     def test_what_is_wrong_is_told(self):
@@ -224,16 +221,15 @@ class ThreeMfs(Case):
                 (changed(' z="0"', ""), "z is missing"), (changed('x="10"', 'x="nan"'), "'nan' is not a number"),
                 *((changed('v1="0"', f'v1="{at}"'), "a triangle has an index that is no number")
                   for at in ("1_0", "+1", "-1", "\u0661", "1 2", "", " ")),
-                *((changed('x="10"', f'x="{blank}"'), "a vertex has a coordinate that is not a number of at most 60 bytes")
+                *((changed('x="10"', f'x="{blank}"'), "a vertex has a coordinate that is not a number of at most 40 bytes")
                   for blank in ("", " ", "1 2")),
-                (model(words='unit=""'), "there is no unit ''"), (model(items=placed("")), "a transform hasn't twelve numbers "
-                                                                  "of at most 40 bytes"),
+                (model(words='unit=""'), "there is no unit ''"),
+                *((model(items=placed(it)), threemf.NO_TRANSFORM) for it in ("", "1 0 0", " " * 641)),
                 (model(items=placed("1 0 0 0 1 0 0 0 1 0 0 0", "")), "there is no object  before what refers to it"),
                 *((changed('x="10"', f'x="{far}"'), "object 1 reaches beyond 128 m from the origin")
                   for far in ("1e300", "-1e9999999999999999999999")),
                 (model(words='unit="furlong"'), "there is no unit 'furlong'"),
                 (changed('x="10"', 'x="128000.0005"'), "object 1 reaches beyond 128 m from the origin"),
-                (model(items=placed("1 0 0")), "a transform hasn't twelve numbers of at most 40 bytes"),
                 (model(items=placed("1 0 0 0 1 0 0 0 0 0 0 0")), "a transform makes an object flat"),
                 (model(items='<item objectid="2"/>'), "there is no object 2 before what refers to it"),
                 (model(holding(1, '<component objectid="1"/>')), "there is no object 1 before what refers to it"),
@@ -260,24 +256,21 @@ def hostile_models():
     yield "components in each other", model(BOX + each_holding(1, 2999), '<item objectid="2999"/>')
     long = " 0 0 0 ".join(3 * ["1." + 30 * "7"]) + " 0 0 0"
     yield "long numbers of transforms", model(BOX + each_holding(1, 14, long), '<item objectid="14"/>')
+    draw, numbers = random.Random(3), [(k,) for k in range(250_000)]
     for name, filling in (("spaces", " " * (15 << 20)), ("a comment", f"<!--{'x' * (15 << 20)}-->"),
-                          ("elements", "<a>" * (5 << 20)), ("a name", f"<{'x' * (15 << 20)}/>"),
-                          ("spaces beyond", " " * (1 << 25))):
+                          ("elements", "<a>" * (5 << 20)), ("a name", f"<{'x' * (15 << 20)}/>"), ("spaces beyond", " " * (1 << 25)),
+                          ("empty elements", "".join(draw.choices(("<a/>", "<b/>"), k=1_000_000))), ("names", lines("<a%d/>", numbers)),
+                          ("namespaces", lines('<a xmlns:p%d="x"/>', numbers)), ("attributes", "<a" + lines(' p%d=""', numbers) + "/>")):
         yield name, model().replace("<resources>", "<resources>" + filling)
+    yield "a long namespace", model(words=f'xmlns:a="{200_000 * "x"}"').replace("<resources>", "<resources>" + 5000 * "<a:b/>")
     yield "items", model(items=500_000 * '<item objectid="1"/>')
-    draw = random.Random(3)
-    yield "empty elements", model().replace("<resources>", "<resources>" + "".join(draw.choices(("<a/>", "<b/>"), k=1_000_000)))
-    yield "names", model().replace("<resources>", "<resources>" + lines("<a%d/>", [(k,) for k in range(290_000)]))
     for name, number in (("decimals", "%de-149"), ("powers", "%de295"), ("zeros", 200 * "0" + "%d")):
         cloud = lines(CORNER, zip(*[(number % draw.randrange(100) for _ in range(90_000))] * 3))
         yield name, model(f'<object id="1"><mesh><vertices>{cloud}</vertices><triangles>{30_000 * TRIANGLE}</triangles></mesh></object>')
     yield "empty objects", model(lines('<object id="%s"/>', [(k,) for k in range(100_000)]))
-    for count, faces, items in ((30_000, 10_000, 12), (12_000, 12_000, 85), (3000, 1000, 180)):
+    for count, faces, items in ((30_000, 10_000, 12), (12_000, 12_000, 85), (3000, 1000, 180), (150_000, 0, 1), (50_000, 0, 1000)):
         often = f"<mesh><vertices>{count * VERTEX}</vertices><triangles>{faces * TRIANGLE}</triangles></mesh>"
         yield f"{count} points {items} times", model(f'<object id="1">{often}</object>', items * placed(moved_by(1)))
-    for count, items in ((150_000, 1), (50_000, 1000)):
-        cloud = f"<mesh><vertices>{count * VERTEX}</vertices><triangles/></mesh>"
-        yield f"{count} points", model(f'<object id="1">{cloud}</object>', items * '<item objectid="1"/>')
 
 
 def hostile_files():
@@ -288,8 +281,15 @@ def hostile_files():
     yield "a face", b"v 0 0 0\nf" + b" 1" * 500_000
     yield "entries", zip_of([("_rels/.rels", RELATIONSHIPS), *((str(k), "") for k in range(60_000))])
     whole = packed(model())
-    at = whole.rfind(b"PK\1\2", 0, whole.rfind(b"PK\5\6"))
+    at, end = whole.rfind(b"PK\1\2"), whole.rfind(b"PK\5\6")
     yield "a size that lies", whole[:at + 24] + struct.pack("<I", 1 << 31) + whole[at + 28:]
+    beyond = whole[at:at + 30] + struct.pack("<H", 12) + whole[at + 32:at + 42] + b"\xff" * 4 + whole[at + 46:end]
+    far = whole[:at] + beyond + struct.pack("<HHQ", 1, 8, (1 << 64) - 1) + whole[end:]
+    yield "an entry beyond the file", far[:-10] + struct.pack("<I", len(far) - 22 - whole.find(b"PK\1\2")) + far[-6:]
+    whole = packed(model(), (threemf.CONFIGS[0], bytes(1 << 28)))
+    at = whole.rfind(b"PK\1\2")
+    yield "settings whose size lies", whole[:at + 24] + struct.pack("<I", 100) + whole[at + 28:]
+    yield "settings", packed(model(), *((name, "S" * (threemf.CONFIG - 1)) for name in threemf.CONFIGS))
 
 
 def mutated(draw, body):
@@ -354,11 +354,12 @@ class Readers(Case):
 class HostileFiles(Case):
     def test_they_take_at_most_40_megabytes_and_two_seconds(self):
         for name, body in hostile_files():
-            words = [SL1, *SCREEN, "--workers", "1", self.room.put("part", body), self.room.file("out.sl1")]
+            more = ["--shells"] * ("times" in name)
+            words = [SL1, *SCREEN, "--workers", "1", *more, self.room.put("part", body), self.room.file("out.sl1")]
             for _ in range(3):  # what else the machine does makes runs longer
                 ran = self.room.run(sys.executable, "-c", MEASURED, *words)
                 seconds, memory = map(float, ran.out.split()[-2:])
-                assert ran.status in (1, 3) and ran.fault.count("\n") == 1 or name == "spaces", f"{name}: {ran}"
+                assert ran.status in (1, 3) and ran.fault.count("\n") == 1 or name in ("spaces", "settings"), f"{name}: {ran}"
                 if seconds < 2:
                     break
             assert seconds < 2 and memory < 40 << 10, f"{name}: {seconds} s, {memory} KiB"

@@ -183,7 +183,7 @@ class Module(Case):
         for head, kind in ((packed + bytes(1 << 17) + b"_rels/.rels", "3MF"), (packed + b"part.stl", "zip"),
                            (b"\x1f\x8b\x08\0", "gzip"), (b"ply\nformat ascii 1.0\n", "PLY"), (b"OFF\n8 6 0\n", "OFF"),
                            (b"# by a tool\n" * 5000 + b"mtllib a.mtl\nv 1 2 3\n", "OBJ"), (b"\xef\xbb\xbfv 1 2 3\n", "OBJ"),
-                           (b"o part\n", "OBJ"), (b"solid part\nfacet normal 0 0 1\n", None), (b"  SOLID\n", None),
+                           (b"# by a tool\ro part\r", "OBJ"), (b"solid part\nfacet normal 0 0 1\n", None), (b"  SOLID\n", None),
                            (b"facet", None), (b"", None), (b"\xef\xbb\xbfsolid", None)):
             same(parts.kind_of(head), kind, f"{head!r}")
 

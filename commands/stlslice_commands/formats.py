@@ -11,8 +11,8 @@ ASSIMP = "assimp export {0} {1}"  # of all others
 END = 1 << 16  # bytes at each end of a file, which tell its kind
 KINDS = {
     "PLY": re.compile(rb"ply\s"),
-    "OFF": re.compile(rb"(?:\s|#[^\n]*\n)*(?:ST)?C?N?4?n?OFF\s"),
-    "OBJ": re.compile(rb"(?:\xef\xbb\xbf)?(?:\s|#[^\n]*\n)*(?:v|vn|vt|vp|f|o|g|s|mtllib|usemtl)[ \t]"),
+    "OFF": re.compile(rb"(?:\s|#[^\r\n]*[\r\n])*(?:ST)?C?N?4?n?OFF\s"),
+    "OBJ": re.compile(rb"(?:\xef\xbb\xbf)?(?:\s|#[^\r\n]*[\r\n])*(?:v|vn|vt|vp|f|o|g|s|mtllib|usemtl)[ \t]"),
     "AMF": re.compile(rb"(?:\xef\xbb\xbf)?\s*(?:<[?!][^>]*>\s*)*<amf[\s>]"),
     "3MF": re.compile(rb"PK\x03\x04(?s:.*)_rels/\.rels"),
     "zip": re.compile(rb"PK\x03\x04"),

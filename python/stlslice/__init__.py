@@ -72,6 +72,7 @@ Arrays = Tuple["array.array[int]", "array.array[int]"]      # points and triangl
 Progress = Optional[Callable[[str], object]]
 
 FACTORS = [1000, 25400, 10000, 1000000]     # micrometres in each unit
+AT_ONCE = 1 << 17    # bytes of PNGs that a thread makes at once
 LINE = 256
 WORD = range(2**32)
 MOST_COORDINATE = 2**31 - 1     # more than any that a mesh may have, and as far as the library's type goes
@@ -457,18 +458,21 @@ def open_mesh(points: Triples, triangles: Triples, pitch: Pitch = 50, layer: int
 
 
 def _side_by_side(make: Callable[[int], bytes], layers: range, workers: int) -> Iterator[bytes]:
-    """What is made of each layer, in order. Whatever ends the iteration, no thread goes on."""
+    """What is made of each layer, in order. A thread makes several small ones at once, since threads take turns in Python. Whatever
+    ends the iteration, no thread goes on."""
     from concurrent.futures import ThreadPoolExecutor
 
     ahead: Deque[Any] = collections.deque()
+    several = 1
     with ThreadPoolExecutor(workers) as pool:
         try:
-            for k in layers:
-                ahead.append(pool.submit(make, k))
-                if len(ahead) > 2 * workers:
-                    yield ahead.popleft().result()
-            while ahead:
-                yield ahead.popleft().result()
+            while layers or ahead:
+                while layers and len(ahead) <= 2 * workers:
+                    ahead.append(pool.submit(lambda some: [make(k) for k in some], layers[:several]))
+                    layers = layers[several:]
+                made = ahead.popleft().result()
+                yield from made
+                several = max(1, min(16, AT_ONCE // len(made[-1])))
         finally:
             for it in ahead:
                 it.cancel()
@@ -554,7 +558,8 @@ class Mesh:
 
     def pngs(self, depth: int = 8, mirror_x: bool = False, mirror_y: bool = False, workers: int = 1) -> Iterator[bytes]:
         """The PNGs of all layers from the lowest up, as `png` makes them. This many threads make them side by side. They are at
-        most two layers for each thread ahead of the one that was taken, and end with the iterator."""
+        most two layers for each thread ahead of the one that was taken, or 16 small ones in place of each, and end with the
+        iterator."""
         if _word("workers", workers) < 1:
             raise RangeFault(OUT_OF_RANGE, "workers is out of its range")
         made = functools.partial(self.png, depth=depth, mirror_x=mirror_x, mirror_y=mirror_y)

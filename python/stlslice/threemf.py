@@ -2,12 +2,13 @@
 
 import functools
 import io
+import itertools
 import re
 import struct
 import zipfile
 import zlib
 from array import array
-from typing import Callable, Dict, Iterator, List, Optional, Sequence, Tuple
+from typing import IO, Callable, Dict, Iterator, List, Optional, Sequence, Tuple
 from xml.parsers import expat
 
 from . import NOT_READ, Arrays, Fault, FormatFault, Progress, Source, _bytes, _rounded
@@ -20,24 +21,26 @@ UNITS = {"micron": 1, "millimeter": 1000, "centimeter": 10_000, "inch": 25_400, 
 CORNER = re.compile("[0-9]{1,9}")  # an index of a triangle
 IDENTITY = "1 0 0 0 1 0 0 0 1 0 0 0"
 # Files in which slicers say that a part of a mesh is none of the body.
-NO_BODY = re.compile(rb"ParameterModifier|NegativeVolume|Support(?:Enforcer|Blocker)|"
-                     rb"modifier_part|negative_part|support_(?:enforcer|blocker)")
+NO_BODY = (b"ParameterModifier", b"NegativeVolume", b"SupportEnforcer", b"SupportBlocker",
+           b"modifier_part", b"negative_part", b"support_enforcer", b"support_blocker")
 CONFIGS = ("Metadata/Slic3r_PE_model.config", "Metadata/model_settings.config")
-BLOCK = 1 << 16  # bytes of XML that are read at once
+BLOCK = 1 << 16  # bytes that are read at once
 CONFIG = 1 << 24  # bytes of such a file
-LARGEST, SMALL, RATIO = 1 << 28, 1 << 20, 100  # bytes of an entry; above SMALL it has at most RATIO times its packed bytes
-WORD = 1 << 20  # bytes of XML without an event, and of the relationships
-ELEMENTS = 300_000  # of an entry; above them it has at most one for each packed byte
+LARGEST, SMALL, RATIO = 1 << 28, 1 << 20, 40  # bytes of an entry; above SMALL it has at most RATIO times its packed bytes
+WORD = 1 << 18  # bytes of XML without an event, and of the relationships
+ELEMENTS = 100_000  # of an entry; above them it has at most one for two packed bytes
 OBJECTS = 10_000  # of a model
 ENTRIES = 10_000  # of a zip
 NESTED, DEEPEST = 64, 16  # elements of XML, and components, in each other
-NAMES = 1000  # of elements and attributes
+NAMES, NAME = 1000, 300  # of elements, attributes and namespaces, and the characters of one
 DECIMALS, POINT = 150, 50  # of transforms in each other, and of a number of a point
 BITS = 200  # of a coordinate's digits, more than COORDINATE bytes have without an exponent
 SLOW = 40  # decimals with which placing points takes as long again
-TRANSFORM, COORDINATE = 40, 60  # bytes of a number of a transform, and of a point
+TRANSFORM, COORDINATE = 40, 40  # bytes of a number of a transform, and of a point
+NO_TRANSFORM = f"a transform hasn't twelve numbers of at most {TRANSFORM} bytes"
 PLACED = 100  # facets that take as long as placing an object
-DAMAGED = (zipfile.BadZipFile, zlib.error, struct.error, expat.ExpatError, EOFError, RuntimeError, ValueError, LookupError)
+DAMAGED = (zipfile.BadZipFile, zlib.error, struct.error, expat.ExpatError, EOFError, RuntimeError, ValueError, LookupError,
+           OverflowError)
 
 Words = Dict[str, str]
 Transform = Tuple[List[List[int]], int]  # three rows of four whole numbers, and how many of their digits are decimals
@@ -68,7 +71,7 @@ def _reading(data: bytes, model: "_Model", points: "array[int]", triangles: "arr
         refuse_if(data.count(b"PK\1\2") > ENTRIES, f"it has more than {ENTRIES:,} entries")
         with zipfile.ZipFile(io.BytesIO(data)) as archive:
             for name in CONFIGS:
-                if name in archive.namelist() and NO_BODY.search(archive.read(_entry(archive, name, CONFIG, CONFIG))):
+                if name in archive.namelist() and _has_no_body(archive.open(_entry(archive, name, CONFIG, CONFIG))):
                     raise FormatFault(NOT_READ, "the 3MF has volumes that are none of the part, such as modifiers")
             yield from _fed(archive, _entry(archive, _model_of(archive)), model.start, model.end)
             model.items.place(([[model.unit * (k == j) for k in range(4)] for j in range(3)], 0), points, triangles)
@@ -76,7 +79,18 @@ def _reading(data: bytes, model: "_Model", points: "array[int]", triangles: "arr
         raise
     except (Fault, *DAMAGED) as fault:
         why = f"{fault.args[0]} is missing" if isinstance(fault, KeyError) else str(fault) or "an entry is cut"
+        why = "an entry lies beyond the file" if isinstance(fault, OverflowError) else why
         raise Fault(NOT_READ, f"the 3MF can't be read: {why[:200]}") from None
+
+
+def _has_no_body(stream: IO[bytes]) -> bool:
+    """Whether a slicer's file says that a part of a mesh is none of the body."""
+    last = b""
+    for block in iter(lambda: stream.read(BLOCK), b""):
+        if any(it in last + block for it in NO_BODY):
+            return True
+        last = block[-32:]
+    return False
 
 
 def _model_of(archive: zipfile.ZipFile) -> str:
@@ -110,19 +124,24 @@ def _fed(archive: zipfile.ZipFile, entry: zipfile.ZipInfo, start: Callable[[str,
     """Calls `start` and `end` for each element of an entry's XML, and tells how many bytes are read. A document type, and with it
     entities, is refused."""
     above: List[str] = []
-    count, parser, left = 0, expat.ParserCreate(namespace_separator=" "), max(ELEMENTS, entry.compress_size)
+    count, names, parser, left = 0, 0, expat.ParserCreate(namespace_separator=" "), max(ELEMENTS, entry.compress_size // 2)
 
     def began(name: str, words: Words) -> None:
-        nonlocal left
+        nonlocal left, names
         left -= 1
-        refuse_if(left < 0, f"it has more than {ELEMENTS:,} elements, and more than packed bytes")
-        refuse_if(len(parser.intern) > NAMES, f"it has more than {NAMES:,} names of elements and attributes")
+        refuse_if(left < 0, f"it has more than {ELEMENTS:,} elements, and more than half as many as packed bytes")
+        if len(parser.intern) > names:
+            names = len(parser.intern)
+            refuse_if(names > NAMES, f"it has more than {NAMES:,} names of elements and attributes")
+            refuse_if(max(map(len, (name, *words))) > NAME, f"it has a name of more than {NAME} characters")
         above.append(name)
         refuse_if(len(above) > NESTED, "its XML is nested too deeply")
         start(name, words)
 
     parser.StartElementHandler, parser.EndElementHandler = began, lambda _: end(above.pop())
     parser.StartDoctypeDeclHandler = lambda *_: refuse_if(True, "its XML has a document type")
+    spaces = itertools.count(1)
+    parser.StartNamespaceDeclHandler = lambda *_: refuse_if(next(spaces) > NAMES, f"it names more than {NAMES:,} namespaces")
     stream = archive.open(entry)
     for block in iter(lambda: stream.read(BLOCK), b""):
         count += len(block)
@@ -136,7 +155,7 @@ class _Model:
     """The objects of a 3MF's model and what is to be built of them, of at most so many facets."""
 
     def __init__(self, most: int) -> None:
-        self.most, self.unit, self.points, self.object, self.items = most, 0, 0, None, _Object("", "model")
+        self.most, self.unit, self.points, self.facets, self.object, self.items = most, 0, 0, 0, None, _Object("", "model")
         self.objects: Dict[str, _Object] = {}
 
     def start(self, name: str, words: Words) -> None:
@@ -154,6 +173,7 @@ class _Model:
             refuse_if(count > len(it.triangles) + PLACED, f"object {it.id} has {count:,} points, more than its triangles can have")
             it.points += count
             self.points += count
+            self.facets += len(it.triangles) // 3
 
     def take_model(self, words: Words) -> None:
         unit, extensions = words.get("unit", "millimeter"), words.get("requiredextensions", "")
@@ -164,6 +184,7 @@ class _Model:
 
     def take_object(self, words: Words) -> None:
         id = words["id"]
+        refuse_if(len(id) > NAME, f"an object's id has more than {NAME} characters")
         refuse_if(self.object or id in self.objects, f"object {id[:20]} stands twice, or in another")
         refuse_if(len(self.objects) == OBJECTS, f"it has more than {OBJECTS:,} objects")
         self.object = self.objects[id] = _Object(id[:20], words.get("type", "model"))
@@ -191,14 +212,17 @@ class _Model:
         refuse_if(not found or found is self.object, f"there is no object {id[:20]} before what refers to it")
         if found.type not in ("model", "solidsupport", "support"):
             raise FormatFault(NOT_READ, f"the 3MF builds an object of the type {found.type[:20]}")
-        transform = _transform_of(words.get("transform", IDENTITY))
+        text = words.get("transform", IDENTITY)
+        refuse_if(len(text) > 16 * TRANSFORM, NO_TRANSFORM)
+        transform = _transform_of(text)
         holder.components.append((found, transform))
         holder.cost += PLACED + found.cost
         holder.points += found.points
         holder.decimals = max(holder.decimals, max(found.decimals, found.numbers[1]) + transform[1])
         holder.depth = max(holder.depth, found.depth + 1)
-        refuse_if(holder.cost > self.most, f"it has more than {self.most:,} facets, or too many objects")
-        is_often = holder.points * (1 + holder.decimals // SLOW) > self.most // 2 + self.points
+        most = min(self.most, FACETS + 2 * self.facets)
+        refuse_if(holder.cost > most, f"it has more than {most:,} facets, or too many objects")
+        is_often = holder.points * (1 + holder.decimals // SLOW) > min(self.most, FACETS) // 2 + 2 * self.points
         refuse_if(is_often, f"its objects are placed so often that they have {holder.points:,} points")
         refuse_if(holder.depth > DEEPEST, "its components are too deep in each other")
 
@@ -273,8 +297,7 @@ def _joined(outer: Transform, inner: Transform) -> Transform:
 def _transform_of(text: str) -> Transform:
     """A transform, by rows: by the first three numbers of each x, y and z are multiplied, and the last is added."""
     words = text.encode().split()
-    is_wrong = len(words) != 12 or max(map(len, words)) > TRANSFORM
-    refuse_if(is_wrong, f"a transform hasn't twelve numbers of at most {TRANSFORM} bytes")
+    refuse_if(len(words) != 12 or max(map(len, words)) > TRANSFORM, NO_TRANSFORM)
     found = [number(it) for it in words]
     decimals = max(own for _, own in found)
     _refuse_decimals(decimals)
