@@ -6,6 +6,7 @@ ghost use Rattle.mesh_weld.specs.Welder.{IsNamed, IsNamedFacet};
 ghost use Rattle.geometry.specs.declared.limits.TheConstants.{CORNER_LIMIT};
 
 use crate::by_hash::histogram::NONE;
+use crate::packing::HALF_WORD;
 use geometry::{Facet, Point};
 use std::alloc::{AllocError, Allocator};
 
@@ -14,7 +15,13 @@ use std::alloc::{AllocError, Allocator};
 const CHAIN_LIMIT: usize = 64;
 
 /// The table has at least this many slots for each point, so that chains stay far below `CHAIN_LIMIT`.
-const SLOTS_A_POINT: usize = 3;
+const SLOTS_A_POINT: usize = 2;
+
+/// The bits of an entry that hold an id. There are fewer points.
+const ID_BITS: u32 = 0x003f_ffff;
+
+/// The bits of an entry that hold its tag.
+const TAG_BITS: u32 = 0xffc0_0000;
 
 /// A table has at least this power of two of slots.
 const LEAST_BITS: u32 = 10;
@@ -32,11 +39,12 @@ const Z_MULTIPLIER: u64 = 0xc2b2_ae3d_27d4_eb4f;
 /// Multiplies the sum, so that its upper bits depend on all coordinates: an odd number with mixed bits.
 const LAST_MULTIPLIER: u64 = 0xd6e8_feb8_6659_fd93;
 
-/// A table of ids, each at the hash of its point or in one of the next slots.
+/// A table of entries, each at the slot of its point's hash or in one of the next slots. An entry is the id of a point, and above
+/// it a tag: other bits of the hash. So few points are looked up in vain. A free slot holds `NONE`.
 #[derive(Drop)]
 pub(crate) struct CornerTable<A: Allocator> {
-    ids: Vec<u32, A>,
-    /// The number of lower bits of a hash that are dropped.
+    entries: Vec<u32, A>,
+    /// The number of lower bits of a hash that its slot does not depend on.
     shift: u32,
 }
 
@@ -44,7 +52,7 @@ impl<A: Allocator + Copy> CornerTable<A> {
     /// A table with no slot.
     pub(crate) fn new(alloc: A) -> CornerTable<A> {
         CornerTable {
-            ids: Vec::new(alloc),
+            entries: Vec::new(alloc),
             shift: 64,
         }
     }
@@ -52,7 +60,7 @@ impl<A: Allocator + Copy> CornerTable<A> {
     /// Makes the table large enough for the points and a facet's three corners more.
     fn make_room(&mut self, alloc: A, points: &[Point]) -> Result<(), AllocError> {
         let wanted = points.len().saturating_add(3).saturating_mul(SLOTS_A_POINT);
-        if wanted <= self.ids.len() {
+        if wanted <= self.entries.len() {
             return Ok(());
         }
         // 1 << bits is more than wanted, and at most twice as much.
@@ -61,85 +69,98 @@ impl<A: Allocator + Copy> CornerTable<A> {
             .max(LEAST_BITS);
         let slots = 1usize.unbounded_shl(bits);
         let shift = 64u32.saturating_sub(bits);
-        // the old table first: all ids are entered anew
-        self.ids = Vec::new(alloc);
-        self.ids = vec![in alloc; NONE; slots.saturating_add(CHAIN_LIMIT)]?;
+        // the old table first: all points are entered anew
+        self.entries = Vec::new(alloc);
+        self.entries = vec![in alloc; NONE; slots.saturating_add(CHAIN_LIMIT)]?;
         self.shift = shift;
-        enter_points(self.ids.as_mut_slice(), points, shift);
+        enter_points(self.entries.as_mut_slice(), points, shift);
         Ok(())
     }
 
-    /// Guesses the ids of the corners of the first facets: those at their hashes, which may be other points' ids.
+    /// Guesses the ids of the corners of the first facets by the first slots and the tags of their hashes. `NONE` where the tag
+    /// differs.
     pub(crate) fn guess_ids(&self, facets: &[Facet], guesses: &mut [[u32; 3]]) {
-        let (ids, shift) = (self.ids.as_slice(), self.shift);
+        let (entries, shift) = (self.entries.as_slice(), self.shift);
         for (own, facet) in guesses.iter_mut().zip(facets) {
             *own = [
-                guess_of(ids, facet.corner(0), shift),
-                guess_of(ids, facet.corner(1), shift),
-                guess_of(ids, facet.corner(2), shift),
+                guess_of(entries, facet.corner(0), shift),
+                guess_of(entries, facet.corner(1), shift),
+                guess_of(entries, facet.corner(2), shift),
             ];
         }
     }
 }
 
-/// The id at a point's hash, or `NONE`.
-fn guess_of(ids: &[u32], point: Point, shift: u32) -> u32 {
-    ids.get(hash(point, shift)).copied().unwrap_or(NONE)
+/// The id in the first slot of a point's hash if the tags are equal, or `NONE`.
+fn guess_of(entries: &[u32], point: Point, shift: u32) -> u32 {
+    let hash = hash(point);
+    let entry = entries.get(slot_of(hash, shift)).copied().unwrap_or(NONE);
+    if entry & TAG_BITS == tag_of(hash) {
+        entry & ID_BITS
+    } else {
+        NONE
+    }
 }
 
-/// Enters the ids of points into an empty table.
-fn enter_points(ids: &mut [u32], points: &[Point], shift: u32) {
+/// Enters points into an empty table.
+fn enter_points(entries: &mut [u32], points: &[Point], shift: u32) {
     let mut id = 0u32;
     for point in points {
-        if let Some(slot) = free_slot(ids, hash(*point, shift)) {
-            ids[slot] = id;
+        let hash = hash(*point);
+        if let Some(slot) = free_slot(entries, slot_of(hash, shift)) {
+            entries[slot] = tag_of(hash) | id;
         }
         id = id.wrapping_add(1);
     }
 }
 
 /// The first free slot among the `CHAIN_LIMIT` slots from `from` on.
-fn free_slot(ids: &[u32], from: usize) -> Option<usize>
-    ensures { IfSome result (λ slot. slot < length ids.now) }
+fn free_slot(entries: &[u32], from: usize) -> Option<usize>
+    ensures { IfSome result (λ slot. slot < length entries.now) }
 {
-    for slot in from..ids.len() {
+    for slot in from..entries.len() {
         if slot - from >= CHAIN_LIMIT {
             return None;
         }
-        if ids[slot] == NONE {
+        if entries[slot] == NONE {
             return Some(slot);
         }
     }
     None
 }
 
-/// The slot where a point's id is looked for first.
-fn hash(point: Point, shift: u32) -> usize {
+/// A hash of a point. Its upper bits depend on all bits of the coordinates.
+fn hash(point: Point) -> u64 {
     let wide = |coordinate: i32| u64::from(coordinate.cast_unsigned());
     let (x, y, z) = (wide(point.x()), wide(point.y()), wide(point.z()));
     (x | y << 32)
         .wrapping_mul(XY_MULTIPLIER)
         .wrapping_add(z.wrapping_mul(Z_MULTIPLIER))
         .wrapping_mul(LAST_MULTIPLIER)
-        .unbounded_shr(shift) as usize
 }
 
-/// The slot of a point's id among the `CHAIN_LIMIT` slots from `from` on. If there is none, the first of them that holds no
-/// point's id, since the id belongs there.
-fn slot_of(ids: &[u32], points: &[Point], point: Point, from: usize) -> Option<usize>
-    ensures inside { IfSome result (λ slot. slot < length ids.now) }
-    ensures named { IfSome result (λ slot. slice_index ids.now slot < length points.now → slice_index_or points.now (slice_index ids.now slot) origin ≡ point) }
+/// The slot where a point with this hash is looked for first.
+fn slot_of(hash: u64, shift: u32) -> usize {
+    hash.unbounded_shr(shift) as usize
+}
+
+/// The tag of a point with this hash: its bits 31 to 40. No slot depends on them, since no table has more than 2²³ slots.
+fn tag_of(hash: u64) -> u32 {
+    ((hash >> 9) % HALF_WORD) as u32 & TAG_BITS
+}
+
+/// The id of a point, if one of the `CHAIN_LIMIT` slots from `from` on holds it and none before is free.
+fn known_id(entries: &[u32], points: &[Point], point: Point, from: usize, tag: u32) -> Option<u32>
+    ensures { IfSome result (λ id. (id < length points.now) × (slice_index_or points.now id origin ≡ point)) }
 {
-    for slot in from..ids.len() {
-        if slot - from >= CHAIN_LIMIT {
+    for slot in from..entries.len() {
+        let entry = entries[slot];
+        if entry == NONE || slot - from >= CHAIN_LIMIT {
             return None;
         }
-        let id = ids[slot] as usize;
-        if id >= points.len() {
-            return Some(slot);
-        }
-        if points[id] == point {
-            return Some(slot);
+        let id = entry & ID_BITS;
+        if entry & TAG_BITS == tag && leads_to(points, id, point) {
+            return Some(id);
         }
     }
     None
@@ -165,15 +186,15 @@ fn id_of<A: Allocator + Copy>(
     if leads_to(points.as_slice(), guess, point) {
         return Ok(guess);
     }
+    let hash = hash(point);
+    let (from, tag) = (slot_of(hash, table.shift), tag_of(hash));
+    let entries = table.entries.as_mut_slice();
+    if let Some(id) = known_id(entries, points.as_slice(), point, from, tag) {
+        return Ok(id);
+    }
     let new = points.len() as u32;
-    let from = hash(point, table.shift);
-    let ids = table.ids.as_mut_slice();
-    if let Some(slot) = slot_of(ids, points.as_slice(), point, from) {
-        let id = ids[slot];
-        if (id as usize) < points.len() {
-            return Ok(id);
-        }
-        ids[slot] = new;
+    if let Some(slot) = free_slot(entries, from) {
+        entries[slot] = tag | new;
     }
     points.push(point)?;
     Ok(new)
