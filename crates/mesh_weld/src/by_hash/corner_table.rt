@@ -26,8 +26,8 @@ const TAG_BITS: u32 = 0xffc0_0000;
 /// A table has at least this power of two of slots.
 const LEAST_BITS: u32 = 10;
 
-/// The number of facets whose ids are guessed at once. The table is far larger than a cache, so each look into it waits for
-/// memory. The waits of one block overlap.
+/// The number of facets whose ids are guessed at once. The table is far larger than a cache, so a look into it may wait for
+/// memory. The waits of one block overlap, the more the less is done between two looks.
 pub(crate) const BLOCK: usize = 32;
 
 /// Multiplies x and y in a hash: 2⁶⁴ divided by the golden ratio.
@@ -77,29 +77,37 @@ impl<A: Allocator + Copy> CornerTable<A> {
         Ok(())
     }
 
-    /// Guesses the ids of the corners of the first facets by the first slots and the tags of their hashes. `NONE` where the tag
-    /// differs.
+    /// Guesses the ids of the corners of the first facets, at most `BLOCK`, by the first slots of their hashes. A guess is above
+    /// all ids if the tag of the entry there is another one.
     pub(crate) fn guess_ids(&self, facets: &[Facet], guesses: &mut [[u32; 3]]) {
         let (entries, shift) = (self.entries.as_slice(), self.shift);
-        for (own, facet) in guesses.iter_mut().zip(facets) {
+        let mut hashes = [[0; 3]; BLOCK];
+        for (own, facet) in hashes.iter_mut().zip(facets) {
             *own = [
-                guess_of(entries, facet.corner(0), shift),
-                guess_of(entries, facet.corner(1), shift),
-                guess_of(entries, facet.corner(2), shift),
+                hash(facet.corner(0)),
+                hash(facet.corner(1)),
+                hash(facet.corner(2)),
             ];
+        }
+        for (own, [first, second, third]) in guesses.iter_mut().zip(&hashes) {
+            *own = [
+                entry_of(entries, *first, shift),
+                entry_of(entries, *second, shift),
+                entry_of(entries, *third, shift),
+            ];
+        }
+        for (own, [first, second, third]) in guesses.iter_mut().zip(&hashes) {
+            own[0] ^= tag_of(*first);
+            own[1] ^= tag_of(*second);
+            own[2] ^= tag_of(*third);
         }
     }
 }
 
-/// The id in the first slot of a point's hash if the tags are equal, or `NONE`.
-fn guess_of(entries: &[u32], point: Point, shift: u32) -> u32 {
-    let hash = hash(point);
-    let entry = entries.get(slot_of(hash, shift)).copied().unwrap_or(NONE);
-    if entry & TAG_BITS == tag_of(hash) {
-        entry & ID_BITS
-    } else {
-        NONE
-    }
+/// The entry in the first slot of a hash.
+#[inline(always)]
+fn entry_of(entries: &[u32], hash: u64, shift: u32) -> u32 {
+    entries.get(slot_of(hash, shift)).copied().unwrap_or(NONE)
 }
 
 /// Enters points into an empty table.
