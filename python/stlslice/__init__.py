@@ -557,9 +557,8 @@ class Mesh:
             self._room = max(self._room, 2 * wanted.value)      # asking for the size alone takes as long as making the PNG
 
     def pngs(self, depth: int = 8, mirror_x: bool = False, mirror_y: bool = False, workers: int = 1) -> Iterator[bytes]:
-        """The PNGs of all layers from the lowest up, as `png` makes them. This many threads make them side by side. They are at
-        most two layers for each thread ahead of the one that was taken, or 16 small ones in place of each, and end with the
-        iterator."""
+        """The PNGs of all layers from the lowest up, as `png` makes them. This many threads make them side by side, for each at
+        most two layers ahead of the one that was taken, or 32 small ones. They end with the iterator."""
         if _word("workers", workers) < 1:
             raise RangeFault(OUT_OF_RANGE, "workers is out of its range")
         made = functools.partial(self.png, depth=depth, mirror_x=mirror_x, mirror_y=mirror_y)

@@ -2,7 +2,6 @@
 
 import functools
 import io
-import itertools
 import re
 import struct
 import zipfile
@@ -126,22 +125,24 @@ def _fed(archive: zipfile.ZipFile, entry: zipfile.ZipInfo, start: Callable[[str,
     above: List[str] = []
     count, names, parser, left = 0, 0, expat.ParserCreate(namespace_separator=" "), max(ELEMENTS, entry.compress_size // 2)
 
+    def refuse_long(*those: Optional[str]) -> None:
+        refuse_if(max(len(it or "") for it in those) > NAME, f"it has a name of more than {NAME} characters")
+
     def began(name: str, words: Words) -> None:
         nonlocal left, names
         left -= 1
         refuse_if(left < 0, f"it has more than {ELEMENTS:,} elements, and more than half as many as packed bytes")
         if len(parser.intern) > names:
             names = len(parser.intern)
-            refuse_if(names > NAMES, f"it has more than {NAMES:,} names of elements and attributes")
-            refuse_if(max(map(len, (name, *words))) > NAME, f"it has a name of more than {NAME} characters")
+            refuse_if(names > NAMES, f"it has more than {NAMES:,} names of elements, attributes and namespaces")
+            refuse_long(name, *words)
         above.append(name)
         refuse_if(len(above) > NESTED, "its XML is nested too deeply")
         start(name, words)
 
     parser.StartElementHandler, parser.EndElementHandler = began, lambda _: end(above.pop())
     parser.StartDoctypeDeclHandler = lambda *_: refuse_if(True, "its XML has a document type")
-    spaces = itertools.count(1)
-    parser.StartNamespaceDeclHandler = lambda *_: refuse_if(next(spaces) > NAMES, f"it names more than {NAMES:,} namespaces")
+    parser.StartNamespaceDeclHandler = refuse_long  # prefixes and namespaces are among `intern` then
     stream = archive.open(entry)
     for block in iter(lambda: stream.read(BLOCK), b""):
         count += len(block)
