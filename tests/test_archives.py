@@ -138,8 +138,7 @@ class Archives(Case):
         self.made("--canvas", "640x240", "--pitch", "50", "--height", "27", "--layer", "1000", BRACKET)
 
     def test_faults_of_the_part_are_handed_on(self):
-        dark = ("no pixel is lit by --rule positive: is the part inside out (try --rule nonzero), or its unit another than "
-                "mm? It is")
+        dark = "no pixel is lit by --rule positive: is the part inside out (try --rule nonzero), or its unit another than mm? It is"
         small = "0.020 x 0.027 x 0.030 mm"
         for bad, status, line in (("facet", 3, "stlslice: expected solid at byte 0"), (OPEN, 4, OPEN_LINE),
                 ("solid\nendsolid\n", 1, "%s: the part has no facets"),

@@ -39,8 +39,7 @@ class FullDisk(Case):
         self.room.put("disk/filling", bytes(max(0, free.f_bavail * free.f_frsize - size)))
 
     def holds_as_before(self):
-        same((sorted(os.listdir(self.disk)), self.room.get("disk", "out")), (["filling", "out"], b"what was there before"),
-             "the disk")
+        same((sorted(os.listdir(self.disk)), self.room.get("disk", "out")), (["filling", "out"], b"what was there before"), "the disk")
 
     def slabs(self, out, *more, length=LAYER, **how):
         """By a stand-in for the slicer, whose slabs of one layer have this length."""
@@ -120,7 +119,6 @@ class FileSize(Case):
         line = b"stlslice: write failed after %d bytes\n" % LIMIT
         for handler, wanted in ((signal.SIG_DFL, (-signal.SIGXFSZ, b"")), (signal.SIG_IGN, (7, line))):
             with open(self.room.file("images"), "wb") as sink:
-                done = subprocess.run(WORDS, input=CUBE, stdout=sink, stderr=subprocess.PIPE, preexec_fn=limited(handler),
-                                      timeout=60)
+                done = subprocess.run(WORDS, input=CUBE, stdout=sink, stderr=subprocess.PIPE, preexec_fn=limited(handler), timeout=60)
             same((done.returncode, done.stderr), wanted, f"status and fault, {handler!r}")
             same(self.room.get("images"), whole[:LIMIT], f"what was written, {handler!r}")

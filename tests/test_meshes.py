@@ -165,8 +165,8 @@ class Objs(Case):
                            ("v 0 0 128001", "1 of the OBJ: '128001' is out of range"),
                            ("v 0 0 " + "0" * 256, "1 of the OBJ: '00000000000000000000' is too long"),
                            ("v 0 0 0\nf 1 1", "2 of the OBJ: a face has fewer than three corners"),
-                           ("#" + 2 ** 20 * " ", "1 of the OBJ has more than 1,048,576 bytes"),
-                           (2 ** 18 * "v \\\n" + "\n", "262,145 of the OBJ has more than 1,048,576 bytes"),
+                           ("#" + 2 ** 18 * " ", "1 of the OBJ has more than 262,144 bytes"),
+                           (2 ** 16 * "v \\\n" + "\n", "65,537 of the OBJ has more than 262,144 bytes"),
                            ("v 0 0 0\nf" + 10_001 * " 1", "2 of the OBJ: a face has more than 10,000 corners"),
                            *((f"v 0 0 0\nf 1 1 {at}", f"2 of the OBJ: there is no point '{at}'")
                              for at in ("2", "0", "-2", "+1", "1.5", "x", "1_0", "1/x", "\u0661"))):
@@ -207,7 +207,8 @@ class ThreeMfs(Case):
         configs = [(threemf.CONFIGS[0], bytes(threemf.BLOCK - 5) + it) for it in threemf.NO_BODY]
         surface = model(f'<object id="1" type="surface">{MESH}</object>')
         for (body, *more), line in (([model(words='requiredextensions="p"')], "needs the extensions 'p'"),
-                ([surface], "builds an object of the type surface"),
+                ([surface], "builds an object of the type 'surface'"),
+                ([model(items='<item p:path="/3D/a.model" objectid="1"/>', words='xmlns:p="p"')], "builds an object of another model file"),
                 *(([model(), it], "has volumes that are none of the part, such as modifiers") for it in configs)):
             same(refusal(read_3mf, body, *more), f"FormatFault: the 3MF {line}", str(more))
 
@@ -225,14 +226,15 @@ class ThreeMfs(Case):
                   for blank in ("", " ", "1 2")),
                 (model(words='unit=""'), "there is no unit ''"),
                 *((model(items=placed(it)), threemf.NO_TRANSFORM) for it in ("", "1 0 0", " " * 641)),
-                (model(items=placed("1 0 0 0 1 0 0 0 1 0 0 0", "")), "there is no object  before what refers to it"),
+                (model(items=placed("1 0 0 0 1 0 0 0 1 0 0 0", "")), "there is no object '' before what refers to it"),
+                (changed('id="1"', 'id="1&#10;"'), "an object's id is no number, but '1\\n'"),
                 *((changed('x="10"', f'x="{far}"'), "object 1 reaches beyond 128 m from the origin")
                   for far in ("1e300", "-1e9999999999999999999999")),
                 (model(words='unit="furlong"'), "there is no unit 'furlong'"),
                 (changed('x="10"', 'x="128000.0005"'), "object 1 reaches beyond 128 m from the origin"),
                 (model(items=placed("1 0 0 0 1 0 0 0 0 0 0 0")), "a transform makes an object flat"),
-                (model(items='<item objectid="2"/>'), "there is no object 2 before what refers to it"),
-                (model(holding(1, '<component objectid="1"/>')), "there is no object 1 before what refers to it"),
+                (model(items='<item objectid="2"/>'), "there is no object '2' before what refers to it"),
+                (model(holding(1, '<component objectid="1"/>')), "there is no object '1' before what refers to it"),
                 (model(2 * BOX), "object 1 stands twice, or in another"), (model(MESH), "it has a vertex outside an object"),
                 ("<model/>", "its model is none of the core specification 1"),
                 (model(head="<!DOCTYPE a>"), "its XML has a document type"),
@@ -241,9 +243,9 @@ class ThreeMfs(Case):
             same(refusal(read_3mf, body), f"Fault: the 3MF can't be read: {line}", line)
 
 
-def each_holding(count, last, transform=threemf.IDENTITY):
+def each_holding(count, last, transform=threemf.IDENTITY, first=2):
     """Objects that each hold the one before, so many times."""
-    return "".join(holding(k, count * placed(transform, k - 1, "component")) for k in range(2, last + 1))
+    return "".join(holding(k, count * placed(transform, k - 1, "component")) for k in range(first, last + 1))
 
 
 def hostile_models():
@@ -256,7 +258,18 @@ def hostile_models():
     yield "components in each other", model(BOX + each_holding(1, 2999), '<item objectid="2999"/>')
     long = " 0 0 0 ".join(3 * ["1." + 30 * "7"]) + " 0 0 0"
     yield "long numbers of transforms", model(BOX + each_holding(1, 14, long), '<item objectid="14"/>')
+    for number in ("1e295", "1", "1.00000000001"):
+        grown = f"{number} 0e-75 0 0 {number} 0 0 0 {number} 0 0 0"
+        many = holding(2, 9000 * placed(grown, 1, "component")) + each_holding(1, 14, grown, 3)
+        yield f"transforms of {number}", model('<object id="1"/>' + many, '<item objectid="14"/>')
     draw, numbers = random.Random(3), [(k,) for k in range(250_000)]
+    moved = lines('<component objectid="1" transform="1 0 0 0 1 0 0 0 1 0 0 %d"/>', numbers[:10_000])
+    yield "objects that are not built", model('<object id="1"/>' + "".join(holding(k, moved) for k in range(2, 9)))
+    noise = 2 * f"<!--{''.join(map(chr, draw.choices(range(65, 91), k=190_000)))}-->"  # much else is allowed beside it
+    for name, filling in (("types", lines(f'<object id="%d" type="{900 * "x"}"/>', numbers[:10_000])),
+                          ("attributes of each", 1200 * (f'<a xmlns:p="{290 * "u"}"' + lines(' p:a%d=""', numbers[:900]) + "/>")),
+                          ("namespaces of each", 1200 * ("<a" + lines(' xmlns:p%d="x"', numbers[:500]) + "/>"))):
+        yield name, model(noise + filling)
     for name, filling in (("spaces", " " * (15 << 20)), ("a comment", f"<!--{'x' * (15 << 20)}-->"),
                           ("elements", "<a>" * (5 << 20)), ("a name", f"<{'x' * (15 << 20)}/>"), ("spaces beyond", " " * (1 << 25)),
                           ("empty elements", "".join(draw.choices(("<a/>", "<b/>"), k=1_000_000))), ("names", lines("<a%d/>", numbers)),
@@ -264,7 +277,7 @@ def hostile_models():
         yield name, model().replace("<resources>", "<resources>" + filling)
     yield "a long namespace", model(words=f'xmlns:a="{200_000 * "x"}"').replace("<resources>", "<resources>" + 5000 * "<a:b/>")
     yield "items", model(items=500_000 * '<item objectid="1"/>')
-    for name, number in (("decimals", "%de-149"), ("powers", "%de295"), ("zeros", 200 * "0" + "%d")):
+    for name, number in (("decimals", "%de-149"), ("powers", "%de295"), ("far", "%de50"), ("zeros", 200 * "0" + "%d")):
         cloud = lines(CORNER, zip(*[(number % draw.randrange(100) for _ in range(90_000))] * 3))
         yield name, model(f'<object id="1"><mesh><vertices>{cloud}</vertices><triangles>{30_000 * TRIANGLE}</triangles></mesh></object>')
     yield "empty objects", model(lines('<object id="%s"/>', [(k,) for k in range(100_000)]))
@@ -277,19 +290,21 @@ def hostile_files():
     for name, body in hostile_models():
         yield name, packed(body)
     yield "backslashes", b"v 0 0 0\n" + b"\\\n" * 400_000
-    yield "returns", b"p\r" * 1_000_000
+    yield "returns", b"# x\r" + b"g\r" * 1_000_000
+    yield "words", 2 * (b"g" + b" aa" * 300_000 + b"\n")
     yield "a face", b"v 0 0 0\nf" + b" 1" * 500_000
     yield "entries", zip_of([("_rels/.rels", RELATIONSHIPS), *((str(k), "") for k in range(60_000))])
     whole = packed(model())
     at, end = whole.rfind(b"PK\1\2"), whole.rfind(b"PK\5\6")
-    yield "a size that lies", whole[:at + 24] + struct.pack("<I", 1 << 31) + whole[at + 28:]
+    for field, size in ((20, (1 << 32) - 2), (24, 1 << 31)):
+        yield f"a size that lies, at {field}", whole[:at + field] + struct.pack("<I", size) + whole[at + field + 4:]
     beyond = whole[at:at + 30] + struct.pack("<H", 12) + whole[at + 32:at + 42] + b"\xff" * 4 + whole[at + 46:end]
     far = whole[:at] + beyond + struct.pack("<HHQ", 1, 8, (1 << 64) - 1) + whole[end:]
     yield "an entry beyond the file", far[:-10] + struct.pack("<I", len(far) - 22 - whole.find(b"PK\1\2")) + far[-6:]
     whole = packed(model(), (threemf.CONFIGS[0], bytes(1 << 28)))
     at = whole.rfind(b"PK\1\2")
     yield "settings whose size lies", whole[:at + 24] + struct.pack("<I", 100) + whole[at + 28:]
-    yield "settings", packed(model(), *((name, "S" * (threemf.CONFIG - 1)) for name in threemf.CONFIGS))
+    yield "settings", packed(model(), *((name, "e" * (threemf.CONFIG - 1)) for name in threemf.CONFIGS))
 
 
 def mutated(draw, body):
@@ -467,8 +482,7 @@ class Commands(Case):
             plain = self.room.out(*words, BRACKET, out + "2", cwd=self.room.path)
             line = self.room.out(*words, "--json", BRACKET, out, cwd=self.room.path)
             told = json.loads(line)
-            same((line.count("\n"), list(told), told["output"]),
-                 (1, ["output", "layers", "size", "millilitres", *keys], out), name)
+            same((line.count("\n"), list(told), told["output"]), (1, ["output", "layers", "size", "millilitres", *keys], out), name)
             shown = [f"{told['millilitres']:.3f} ml", f"{told['layers']} layers"]
             shown += [" x ".join(f"{side:.3f}" for side in told["size"]) + " mm"] if command != PAGE else []
             assert all(it in plain for it in shown), f"{name}: {plain}, and not {shown}"

@@ -221,8 +221,7 @@ class Printing(Case):
         """With a part that is no STL, and with one that is open, the slicer's line is told and no file gets its name."""
         heads = ("By printer", "An archive for the printer", "A folder of PNGs", "A layer out of an archive",
                  "One layer alone", "A fixed canvas", "Compressed streams", "Many processors, many machines")
-        names = {"out.sl1", "turned.sl1", "pngs", "screen17.png", "layer17.png", "canvas.pbm", "layers.zst", "layers.gz",
-                 "layers.pbm"}
+        names = {"out.sl1", "turned.sl1", "pngs", "screen17.png", "layer17.png", "canvas.pbm", "layers.zst", "layers.gz", "layers.pbm"}
         seen = set()
         for number, block in enumerate(BLOCKS):
             if block.language != "sh" or block.head not in heads or block.words or lacking(*needed(block)):

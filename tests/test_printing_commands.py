@@ -87,8 +87,7 @@ class Commands(Case):
             wanted = [mirrored(image, True, False) for image in self.centred(large, (columns, rows), pitch)]
             assert images == wanted, f"{model}: pixels differ"
             same((settings["printerModel"], profile["printer_model"]), (model, model), "the printer's name")
-            same([profile["display_" + key] for key in keys], [*size, str(rows), str(columns), "portrait", "1", "0"],
-                 "the screen")
+            same([profile["display_" + key] for key in keys], [*size, str(rows), str(columns), "portrait", "1", "0"], "the screen")
             volume = lit(images) * (pitch / times) ** 2 * 500 / 1e12
             out = self.room.file("out")
             same(told, f"{out}: 12.000 x 20.000 x 5.000 mm, {volume:.3f} ml, 10 layers\n", "last line")

@@ -35,8 +35,7 @@ def rows_of(kind, columns, rows, draw):
     spare, whole = 8 * stride - columns, (1 << columns) - 1
     image = b""
     for j in range(rows):
-        bits = {"dark": 0, "lit": whole, "drawn": draw.getrandbits(columns), "many": whole // 3 if j % 3 else 0,
-                "runs": 0}[kind]
+        bits = {"dark": 0, "lit": whole, "drawn": draw.getrandbits(columns), "many": whole // 3 if j % 3 else 0, "runs": 0}[kind]
         for _ in range(draw.randrange(6) if kind == "runs" else 0):
             ends = sorted(draw.randrange(columns + 1) for _ in range(2))
             bits ^= (1 << ends[1]) - (1 << ends[0])
@@ -123,8 +122,7 @@ class Module(Case):
         places, (group,) = shells.split(mixed + [((99, 99, 99), (99, 99, 99), (0, 0, 0))])
         same([list(places[3 * it:3 * it + 3]) for it in group[-6:-4]], [[0, 0, 0], [33, 3, 3]], "ends beside a degenerate facet")
         with mock.patch.object(shells, "LIMIT", 11):
-            refused(lambda: shells.split(mixed), 3,
-                    "the part has a shell of 12 facets, and at most 11 are taken: export it coarser")
+            refused(lambda: shells.split(mixed), 3, "the part has a shell of 12 facets, and at most 11 are taken: export it coarser")
         same([list(it) for it in shells.split([])], [[], []], "points and groups of no facet")
         for facets in ([((0, 0), (1, 1), (2, 2))], [((0, 0, 0), (1, 1, 1))], [((0, 0, 0), (1, 1, 1), (2, 2, 1 << 40))]):
             with self.assertRaises((ValueError, OverflowError), msg=str(facets)):
@@ -214,8 +212,7 @@ class Module(Case):
             skip("prusa-slicer is missing (Debian: prusa-slicer): its profiles")
         profiles = text_of(PROFILES)
         # what PrusaSlicer takes if a profile is silent
-        usual = {"display_mirror_x": "1", "display_mirror_y": "0", "fast_tilt_time": "5", "slow_tilt_time": "8",
-                 "area_fill": "50"}
+        usual = {"display_mirror_x": "1", "display_mirror_y": "0", "fast_tilt_time": "5", "slow_tilt_time": "8", "area_fill": "50"}
         for model, it in known.items():
             name = re.search(r"\[printer:([^\]]+)\]", it.source)[1]
             screen = {**usual, **profile_of(profiles, "printer", name)}

@@ -143,5 +143,4 @@ class BesidePrusaSlicer(Case):
     @needs("prusa-slicer")
     def test_the_script_makes_such_a_row(self):
         words = [beside_prusaslicer.__file__, "--screen", "small", "--part", "calibration_block"]
-        same(re.findall(ROW, self.room.out(sys.executable, *words)), re.findall(ROW, text_of("docs/printing.md"))[:1],
-             "its row")
+        same(re.findall(ROW, self.room.out(sys.executable, *words)), re.findall(ROW, text_of("docs/printing.md"))[:1], "its row")

@@ -170,8 +170,7 @@ class Reference(Together):
 
     @needs("chromium")
     def test_the_search_box_finds_a_definition(self):
-        words = ["--headless", "--no-sandbox", "--disable-gpu", f"--user-data-dir={self.room.file('chromium')}",
-                 "--dump-dom"]
+        words = ["--headless", "--no-sandbox", "--disable-gpu", f"--user-data-dir={self.room.file('chromium')}", "--dump-dom"]
         ran = self.room.run(browser.program(), *words, f"file://{self.room.file('docs')}/index.html?q=is_inside")
         found = re.search(r'<ul id="found">(.*?)</ul>', ran.out)
         assert found and 'href="raster.specs.html#Rule.is_inside"' in found[1], f"found: {found and found[1]}"

@@ -286,8 +286,7 @@ class Refused(Case):
             status, fault = self.refused("", given)
             same((status, fault.splitlines()[0]), (2, line), str(given))
             is_number = line.startswith("error: invalid value")
-            same("whole micrometres, as in --pitch 50 for 0.05 mm" in fault.splitlines()[-1], is_number,
-                 f"last line by {given}")
+            same("whole micrometres, as in --pitch 50 for 0.05 mm" in fault.splitlines()[-1], is_number, f"last line by {given}")
 
     def test_each_line_of_the_program_is_on_the_page(self):
         """The texts of faults in the sources, and the lines of `main`."""

@@ -91,8 +91,7 @@ def default_of(text):
 
 
 def limits(said):
-    return {name: tuple(map(int, re.search(r"(\d+) to (\d+)", said[name]).groups()))
-            for name in ("--pitch", "--layer", "--workers")}
+    return {name: tuple(map(int, re.search(r"(\d+) to (\d+)", said[name]).groups())) for name in ("--pitch", "--layer", "--workers")}
 
 
 def choices_of(text):

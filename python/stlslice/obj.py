@@ -11,7 +11,7 @@ from ._exact import cross, dot, front, in_micrometres, minus, refuse_if
 
 FLAT = 5  # micrometres by which a polygon may be off a plane, and off being convex
 CORNERS = 10_000  # of a face, at most
-LINE = 1 << 20  # bytes of a line
+LINE = 1 << 18  # bytes of a line
 INDEX = re.compile(rb"(-?\d{1,9})(?:/-?\d*)?(?:/-?\d+)?")
 IGNORED = {b"vn", b"vt", b"g", b"o", b"s", b"usemtl", b"mtllib", b"l", b"p"}
 
@@ -83,9 +83,20 @@ def _fan(points: "array[int]", corners: List[int]) -> List[int]:
     if len(corners) == 3:
         return corners
     refuse_if(len(corners) < 3, "a face has fewer than three corners")
-    if not _is_fan([tuple(points[3 * at:3 * at + 3]) for at in corners]):
+    places: List[Triple] = [tuple(points[3 * at:3 * at + 3]) for at in corners]
+    if not (len(places) == 4 and _is_plain(*places) or _is_fan(places)):
         raise FormatFault(NOT_READ, "a face isn't flat and convex")
     return [at for pair in zip(corners[1:], corners[2:]) for at in (corners[0], *pair)]
+
+
+def _is_plain(a: Triple, b: Triple, c: Triple, d: Triple) -> bool:
+    """Whether four corners are flat and convex; then `_is_fan` takes them too, which is slower. `False` says nothing."""
+    across, other, side = minus(c, a), minus(d, b), minus(b, a)
+    normal = cross(across, other)
+    # by each of its diagonals a polygon falls into two triangles, whose normals make this one together
+    whole = dot(normal, normal)
+    return (whole > 0 and dot(normal, side) ** 2 <= FLAT ** 2 * whole
+            and 0 <= dot(normal, cross(side, across)) <= whole and 0 <= dot(normal, cross(minus(c, b), other)) <= whole)
 
 
 def _is_fan(corners: List[Triple]) -> bool:

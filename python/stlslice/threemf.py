@@ -2,6 +2,8 @@
 
 import functools
 import io
+import itertools
+import math
 import re
 import struct
 import zipfile
@@ -17,29 +19,30 @@ FACETS = 1_048_576  # of a mesh, at most
 CORE = "http://schemas.microsoft.com/3dmanufacturing/core/2015/02 "
 MODEL = "http://schemas.microsoft.com/3dmanufacturing/2013/01/3dmodel"
 UNITS = {"micron": 1, "millimeter": 1000, "centimeter": 10_000, "inch": 25_400, "foot": 304_800, "meter": 1_000_000}
-CORNER = re.compile("[0-9]{1,9}")  # an index of a triangle
+INDEX = re.compile("[0-9]{1,9}")  # of a triangle's corner
+ID = re.compile("[0-9]{1,10}")  # of an object
 IDENTITY = "1 0 0 0 1 0 0 0 1 0 0 0"
-# Files in which slicers say that a part of a mesh is none of the body.
+# What slicers say of a part of a mesh that is none of the body, and in which files.
 NO_BODY = (b"ParameterModifier", b"NegativeVolume", b"SupportEnforcer", b"SupportBlocker",
            b"modifier_part", b"negative_part", b"support_enforcer", b"support_blocker")
 CONFIGS = ("Metadata/Slic3r_PE_model.config", "Metadata/model_settings.config")
 BLOCK = 1 << 16  # bytes that are read at once
-CONFIG = 1 << 24  # bytes of such a file
+CONFIG = 1 << 23  # bytes of such a file
 LARGEST, SMALL, RATIO = 1 << 28, 1 << 20, 40  # bytes of an entry; above SMALL it has at most RATIO times its packed bytes
 WORD = 1 << 18  # bytes of XML without an event, and of the relationships
-ELEMENTS = 100_000  # of an entry; above them it has at most one for two packed bytes
-OBJECTS = 10_000  # of a model
+ELEMENTS = 100_000  # of an entry, and declarations of namespaces; above them it has at most one for two packed bytes
+ATTRIBUTES = 8  # of an element; each further one counts as an element
+OBJECTS = 10_000  # of a model, and places of objects
 ENTRIES = 10_000  # of a zip
 NESTED, DEEPEST = 64, 16  # elements of XML, and components, in each other
 NAMES, NAME = 1000, 300  # of elements, attributes and namespaces, and the characters of one
 DECIMALS, POINT = 150, 50  # of transforms in each other, and of a number of a point
-BITS = 200  # of a coordinate's digits, more than COORDINATE bytes have without an exponent
+WHOLE = 12  # digits before the point, of transforms in each other and of a coordinate
 SLOW = 40  # decimals with which placing points takes as long again
 TRANSFORM, COORDINATE = 40, 40  # bytes of a number of a transform, and of a point
 NO_TRANSFORM = f"a transform hasn't twelve numbers of at most {TRANSFORM} bytes"
 PLACED = 100  # facets that take as long as placing an object
-DAMAGED = (zipfile.BadZipFile, zlib.error, struct.error, expat.ExpatError, EOFError, RuntimeError, ValueError, LookupError,
-           OverflowError)
+DAMAGED = (zipfile.BadZipFile, zlib.error, struct.error, expat.ExpatError, EOFError, RuntimeError, ValueError, LookupError)
 
 Words = Dict[str, str]
 Transform = Tuple[List[List[int]], int]  # three rows of four whole numbers, and how many of their digits are decimals
@@ -69,6 +72,8 @@ def _reading(data: bytes, model: "_Model", points: "array[int]", triangles: "arr
         # with these bytes each entry is listed, and the list is held whole
         refuse_if(data.count(b"PK\1\2") > ENTRIES, f"it has more than {ENTRIES:,} entries")
         with zipfile.ZipFile(io.BytesIO(data)) as archive:
+            is_beyond = any(it.header_offset + it.compress_size > len(data) for it in archive.infolist())
+            refuse_if(is_beyond, "an entry lies beyond the file")
             for name in CONFIGS:
                 if name in archive.namelist() and _has_no_body(archive.open(_entry(archive, name, CONFIG, CONFIG))):
                     raise FormatFault(NOT_READ, "the 3MF has volumes that are none of the part, such as modifiers")
@@ -78,7 +83,6 @@ def _reading(data: bytes, model: "_Model", points: "array[int]", triangles: "arr
         raise
     except (Fault, *DAMAGED) as fault:
         why = f"{fault.args[0]} is missing" if isinstance(fault, KeyError) else str(fault) or "an entry is cut"
-        why = "an entry lies beyond the file" if isinstance(fault, OverflowError) else why
         raise Fault(NOT_READ, f"the 3MF can't be read: {why[:200]}") from None
 
 
@@ -86,9 +90,10 @@ def _has_no_body(stream: IO[bytes]) -> bool:
     """Whether a slicer's file says that a part of a mesh is none of the body."""
     last = b""
     for block in iter(lambda: stream.read(BLOCK), b""):
-        if any(it in last + block for it in NO_BODY):
+        last += block
+        if any(it in last for it in NO_BODY):
             return True
-        last = block[-32:]
+        last = last[-32:]
     return False
 
 
@@ -124,13 +129,20 @@ def _fed(archive: zipfile.ZipFile, entry: zipfile.ZipInfo, start: Callable[[str,
     entities, is refused."""
     above: List[str] = []
     count, names, parser, left = 0, 0, expat.ParserCreate(namespace_separator=" "), max(ELEMENTS, entry.compress_size // 2)
+    undeclared = left
 
     def refuse_long(*those: Optional[str]) -> None:
         refuse_if(max(len(it or "") for it in those) > NAME, f"it has a name of more than {NAME} characters")
 
+    def declared(*those: Optional[str]) -> None:
+        nonlocal undeclared
+        undeclared -= 1
+        refuse_if(undeclared < 0, f"it declares more than {ELEMENTS:,} namespaces, and more than half as many as packed bytes")
+        refuse_long(*those)
+
     def began(name: str, words: Words) -> None:
         nonlocal left, names
-        left -= 1
+        left -= max(1, len(words) + 1 - ATTRIBUTES)
         refuse_if(left < 0, f"it has more than {ELEMENTS:,} elements, and more than half as many as packed bytes")
         if len(parser.intern) > names:
             names = len(parser.intern)
@@ -142,7 +154,7 @@ def _fed(archive: zipfile.ZipFile, entry: zipfile.ZipInfo, start: Callable[[str,
 
     parser.StartElementHandler, parser.EndElementHandler = began, lambda _: end(above.pop())
     parser.StartDoctypeDeclHandler = lambda *_: refuse_if(True, "its XML has a document type")
-    parser.StartNamespaceDeclHandler = refuse_long  # prefixes and namespaces are among `intern` then
+    parser.StartNamespaceDeclHandler = declared  # prefixes and namespaces are among `intern` then
     stream = archive.open(entry)
     for block in iter(lambda: stream.read(BLOCK), b""):
         count += len(block)
@@ -157,6 +169,7 @@ class _Model:
 
     def __init__(self, most: int) -> None:
         self.most, self.unit, self.points, self.facets, self.object, self.items = most, 0, 0, 0, None, _Object("", "model")
+        self.places = 0
         self.objects: Dict[str, _Object] = {}
 
     def start(self, name: str, words: Words) -> None:
@@ -184,11 +197,11 @@ class _Model:
         refuse_if(not self.unit, f"there is no unit {unit[:20]!r}")
 
     def take_object(self, words: Words) -> None:
-        id = words["id"]
-        refuse_if(len(id) > NAME, f"an object's id has more than {NAME} characters")
-        refuse_if(self.object or id in self.objects, f"object {id[:20]} stands twice, or in another")
+        id = words["id"].strip(" ")
+        refuse_if(not ID.fullmatch(id), f"an object's id is no number, but {id[:20]!r}")
+        refuse_if(self.object or id in self.objects, f"object {id} stands twice, or in another")
         refuse_if(len(self.objects) == OBJECTS, f"it has more than {OBJECTS:,} objects")
-        self.object = self.objects[id] = _Object(id[:20], words.get("type", "model"))
+        self.object = self.objects[id] = _Object(id, words.get("type", "model")[:20])
 
     def take_vertex(self, words: Words) -> None:
         places = [words[axis].encode().split() for axis in "xyz"]
@@ -198,7 +211,7 @@ class _Model:
 
     def take_triangle(self, words: Words) -> None:
         corners = [words[it].strip(" ") for it in ("v1", "v2", "v3")]
-        refuse_if(not all(map(CORNER.fullmatch, corners)), "a triangle has an index that is no number")
+        refuse_if(not all(map(INDEX.fullmatch, corners)), "a triangle has an index that is no number")
         self.object.triangles.extend(map(int, corners))
         self.object.cost += 1
 
@@ -208,11 +221,15 @@ class _Model:
 
     def take_component(self, words: Words, holder: "Optional[_Object]" = None) -> None:
         """Puts an object into another, or into what is built. It stands before what refers to it, so that none holds itself."""
-        id, holder = words["objectid"], holder or self.object
+        id, holder = words["objectid"].strip(" "), holder or self.object
+        if any(it.endswith(" path") for it in words):
+            raise FormatFault(NOT_READ, "the 3MF builds an object of another model file")
         found = self.objects.get(id)
-        refuse_if(not found or found is self.object, f"there is no object {id[:20]} before what refers to it")
+        refuse_if(not found or found is self.object, f"there is no object {id[:20]!r} before what refers to it")
         if found.type not in ("model", "solidsupport", "support"):
-            raise FormatFault(NOT_READ, f"the 3MF builds an object of the type {found.type[:20]}")
+            raise FormatFault(NOT_READ, f"the 3MF builds an object of the type {found.type!r}")
+        self.places += 1
+        refuse_if(self.places > OBJECTS, f"it places objects more than {OBJECTS:,} times")
         text = words.get("transform", IDENTITY)
         refuse_if(len(text) > 16 * TRANSFORM, NO_TRANSFORM)
         transform = _transform_of(text)
@@ -244,9 +261,8 @@ class _Object:
         for line in io.BytesIO(self.lines):
             for word in line.split():
                 own = number(word)
-                if own[1] > POINT or own[0].bit_length() > BITS:
-                    _refuse_decimals(own[1], POINT)
-                    self.refuse_far(True)
+                _refuse_decimals(own[1], POINT)
+                self.refuse_far(own[0].bit_length() > 4 * (WHOLE + own[1]))
                 digits.append(own[0])
                 decimals.append(own[1])
         most = max(decimals, default=0)
@@ -277,7 +293,7 @@ class _Object:
         points.extend(block)
         if _volume(rows) < 0:
             corners[1::3], corners[2::3] = corners[2::3], corners[1::3]
-        triangles.extend([first + at for at in corners])
+        triangles.extend(first + at for at in corners)
         for other, within in self.components:
             other.place(_joined(transform, within), points, triangles)
 
@@ -285,13 +301,11 @@ class _Object:
 def _joined(outer: Transform, inner: Transform) -> Transform:
     """The transform that applies the inner one first."""
     (rows, decimals), (others, own) = outer, inner
-    columns = list(enumerate(zip(*others)))
+    columns, decimals = list(enumerate(zip(*others))), decimals + own
     found = [[dot(column, row) + (row[3] * 10 ** own if k == 3 else 0) for k, column in columns] for row in rows]
-    decimals += own
-    while decimals and not any(it % 10 for row in found for it in row):
-        found, decimals = [[it // 10 for it in row] for row in found], decimals - 1
-    _refuse_decimals(decimals)
-    return found, decimals
+    shared = str(functools.reduce(math.gcd, itertools.chain(*found), 10 ** decimals))
+    spare = len(shared) - len(shared.rstrip("0"))
+    return _checked([[it // 10 ** spare for it in row] for row in found], decimals - spare)
 
 
 @functools.lru_cache(maxsize=256)
@@ -301,10 +315,17 @@ def _transform_of(text: str) -> Transform:
     refuse_if(len(words) != 12 or max(map(len, words)) > TRANSFORM, NO_TRANSFORM)
     found = [number(it) for it in words]
     decimals = max(own for _, own in found)
-    _refuse_decimals(decimals)
     digits = [it * 10 ** (decimals - own) for it, own in found]
-    rows = [digits[k::3] for k in range(3)]
-    refuse_if(not _volume(rows), "a transform makes an object flat")
+    transform = _checked([digits[k::3] for k in range(3)], decimals)
+    refuse_if(not _volume(transform[0]), "a transform makes an object flat")
+    return transform
+
+
+def _checked(rows: List[List[int]], decimals: int) -> Transform:
+    """A transform. One with more digits than any program writes is refused, since they take long."""
+    _refuse_decimals(decimals)
+    is_large = max(map(abs, itertools.chain(*rows))) >= 10 ** (WHOLE + decimals)
+    refuse_if(is_large, f"it has transforms, or some in each other, with numbers of more than {WHOLE} digits")
     return rows, decimals
 
 
