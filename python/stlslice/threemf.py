@@ -38,7 +38,7 @@ NESTED, DEEPEST = 64, 16  # elements of XML, and components, in each other
 NAMES, NAME = 1000, 300  # of elements, attributes and namespaces, and the characters of one
 DECIMALS, POINT = 150, 50  # of transforms in each other, and of a number of a point
 WHOLE = 12  # digits before the point, of transforms in each other and of a coordinate
-SLOW = 40  # decimals with which placing points takes as long again
+SLOW = 30  # decimals with which placing points takes as long again
 TRANSFORM, COORDINATE = 40, 40  # bytes of a number of a transform, and of a point
 NO_TRANSFORM = f"a transform hasn't twelve numbers of at most {TRANSFORM} bytes"
 PLACED = 100  # facets that take as long as placing an object
@@ -114,12 +114,12 @@ def _model_of(archive: zipfile.ZipFile) -> str:
 def _entry(archive: zipfile.ZipFile, name: str, most: int = LARGEST, small: int = SMALL) -> zipfile.ZipInfo:
     """An entry of the zip. One that is too large, or packed far better than a mesh is, is refused."""
     entries = [it for it in archive.infolist() if it.filename == name]
-    refuse_if(len(entries) != 1, f"it has {name} {len(entries)} times")
+    refuse_if(len(entries) != 1, f"it has {name!r} {len(entries)} times")
     it, = entries
     refuse_if(it.file_size > min(most, max(small, RATIO * it.compress_size)),
-              f"{name} is too large: {it.compress_size:,} bytes that unpack to {it.file_size:,}")
+              f"{name!r} is too large: {it.compress_size:,} bytes that unpack to {it.file_size:,}")
     is_other = it.compress_type not in (zipfile.ZIP_STORED, zipfile.ZIP_DEFLATED)
-    refuse_if(is_other, f"{name} is packed in another way than by deflate")
+    refuse_if(is_other, f"{name!r} is packed in another way than by deflate")
     return it
 
 
