@@ -93,7 +93,7 @@ def _is_plain(a: Triple, b: Triple, c: Triple, d: Triple) -> bool:
     """Whether four corners are flat and convex; then `_is_fan` takes them too, which is slower. `False` says nothing."""
     across, other, side = minus(c, a), minus(d, b), minus(b, a)
     normal = cross(across, other)
-    # by each of its diagonals a polygon falls into two triangles, whose normals make this one together
+    # each diagonal cuts the polygon into two triangles, whose normals add up to this one
     whole = dot(normal, normal)
     return (whole > 0 and dot(normal, side) ** 2 <= FLAT ** 2 * whole
             and 0 <= dot(normal, cross(side, across)) <= whole and 0 <= dot(normal, cross(minus(c, b), other)) <= whole)

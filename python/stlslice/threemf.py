@@ -143,7 +143,7 @@ def _fed(archive: zipfile.ZipFile, entry: zipfile.ZipInfo, start: Callable[[str,
     def began(name: str, words: Words) -> None:
         nonlocal left, names
         left -= max(1, len(words) + 1 - ATTRIBUTES)
-        refuse_if(left < 0, f"it has more than {ELEMENTS:,} elements, and more than half as many as packed bytes")
+        refuse_if(left < 0, f"it has more than {ELEMENTS:,} elements or attributes, and more than half as many as packed bytes")
         if len(parser.intern) > names:
             names = len(parser.intern)
             refuse_if(names > NAMES, f"it has more than {NAMES:,} names of elements, attributes and namespaces")
@@ -222,7 +222,7 @@ class _Model:
     def take_component(self, words: Words, holder: "Optional[_Object]" = None) -> None:
         """Puts an object into another, or into what is built. It stands before what refers to it, so that none holds itself."""
         id, holder = words["objectid"].strip(" "), holder or self.object
-        if any(it.endswith(" path") for it in words):
+        if any(it.endswith(" path") for it in words):  # of the production extension
             raise FormatFault(NOT_READ, "the 3MF builds an object of another model file")
         found = self.objects.get(id)
         refuse_if(not found or found is self.object, f"there is no object {id[:20]!r} before what refers to it")
@@ -261,8 +261,9 @@ class _Object:
         for line in io.BytesIO(self.lines):
             for word in line.split():
                 own = number(word)
-                _refuse_decimals(own[1], POINT)
-                self.refuse_far(own[0].bit_length() > 4 * (WHOLE + own[1]))
+                if own[1] > POINT or own[0].bit_length() > 4 * (WHOLE + own[1]):
+                    _refuse_decimals(own[1], POINT)
+                    self.refuse_far(True)
                 digits.append(own[0])
                 decimals.append(own[1])
         most = max(decimals, default=0)
@@ -303,6 +304,7 @@ def _joined(outer: Transform, inner: Transform) -> Transform:
     (rows, decimals), (others, own) = outer, inner
     columns, decimals = list(enumerate(zip(*others))), decimals + own
     found = [[dot(column, row) + (row[3] * 10 ** own if k == 3 else 0) for k, column in columns] for row in rows]
+    # decimals that are 0 in all numbers are left out
     shared = str(functools.reduce(math.gcd, itertools.chain(*found), 10 ** decimals))
     spare = len(shared) - len(shared.rstrip("0"))
     return _checked([[it // 10 ** spare for it in row] for row in found], decimals - spare)
@@ -325,7 +327,7 @@ def _checked(rows: List[List[int]], decimals: int) -> Transform:
     """A transform. One with more digits than any program writes is refused, since they take long."""
     _refuse_decimals(decimals)
     is_large = max(map(abs, itertools.chain(*rows))) >= 10 ** (WHOLE + decimals)
-    refuse_if(is_large, f"it has transforms, or some in each other, with numbers of more than {WHOLE} digits")
+    refuse_if(is_large, f"a transform, or some in each other, has more than {WHOLE} digits before the point")
     return rows, decimals
 
 
