@@ -1,5 +1,4 @@
 pub mod Active
-pub mod EdgeTable
 pub mod Linker
 pub mod Loops
 pub mod Outlines

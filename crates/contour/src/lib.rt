@@ -24,7 +24,6 @@
 #![tactic(auto)]
 
 mod active;
-mod edge_table;
 mod laws;
 mod linker;
 mod loop_list;

@@ -1,22 +1,21 @@
-//! Linking finds the loops of a plane's segments in memory of their number, however large the mesh is. So the edges at which they
-//! start and end get numbers of their own, by an `EdgeTable`. The time is of their number too, unless most of these edges fall
-//! into one bucket of the table. A slot is a position in the plane's list. The segments that start at an edge form a linked list:
-//! - `heads[e]` is the slot of the first segment that starts at the edge with the number `e`;
+//! Linking finds the loops of a plane's segments in time of their number, however large the mesh is. A slot is a position in
+//! the plane's list. The segments that start at an edge form a linked list:
+//! - `heads[e]` is the slot of the first segment that starts at the mesh's edge with the number `e`;
 //! - `after[i]` is the slot of the next segment that starts at the same edge as that in slot `i`;
 //! - [`NONE`] is the end of a list.
 //!
-//! Each segment takes the head of the list of the edge where it ends. That is its follower, and `next` keeps its slot. Then the
-//! loops are traced from follower to follower, with a flag for each slot that was visited.
+//! Each segment takes the head of the list of the edge where it ends. That is its follower, and `next` keeps its slot. As many
+//! segments end at an edge as start there. So all lists are empty again, and the next plane needs no new heads. Then the loops
+//! are traced from follower to follower, with a flag for each slot that was visited.
 ghost use Rattle.std.specs.Prelude.{[], ◌++◌, true, false, ◌≡◌, ◌<◌, ◌≤◌, ℕ, ℤ, All, List, IfOk, OnOk, length, slice_index_or};
 ghost use Rattle.exact_int.specs.Bounds.{IsAtMost};
 ghost use Rattle.mesh_weld.specs.Balance.{IsBalanced};
 ghost use Rattle.plane_segments.specs.Segment.{HasOrderedNodes, segments};
 ghost use Rattle.contour.specs.Loops.{AreLoops, loops};
-ghost use Rattle.contour.specs.Linker.{AreLinks, AreRenumbered, AreSegmentEdges, ArePopped, AreTraced, HasFirsts, HasLeft, HasNexts, InFacetOrder, IsClear, IsTracedLoop, KeepsLoopsWhole, edge_at_node, is_visited};
+ghost use Rattle.contour.specs.Linker.{AreLinks, AreSegmentEdges, ArePopped, AreTraced, HasFirsts, HasLeft, HasNexts, InFacetOrder, IsClear, IsTracedLoop, KeepsLoopsWhole, edge_at_node, is_visited};
 ghost use Rattle.contour.specs.declared.linker.TheConstants.{NONE};
 ghost use Rattle.geometry.specs.declared.limits.TheConstants.{CENTRE_LIMIT, FACET_LIMIT};
 
-use crate::edge_table::EdgeTable;
 use crate::loop_list::Loops;
 use mesh_weld::Solid;
 use plane_segments::{Node, Segment};
@@ -36,9 +35,13 @@ pub struct Linker<A: Allocator> {
 }
 
 impl<A: Allocator> Model for Linker<A> {
+    ghost use Rattle.contour.specs.Linker.{IsClear};
+
     ghost Value = { Unit {0} };
 
     ghost view = { λ l. tt };
+
+    ghost invariant = { λ l. IsClear l.links.heads.items };
 }
 
 impl<A: Allocator + Copy + Send + Sync> Linker<A> {
@@ -81,11 +84,10 @@ fn slot_count<A: Allocator>(s: &Solid<A>, list: &[Segment]) -> u32
 }
 
 /// The links of a plane's segments: for each, `next` has the slot of its follower, and `after` the slot of the next segment
-/// that starts at the same edge.
+/// that starts at the same edge. Between two planes all of `heads` is [`NONE`].
 #[derive(Drop)]
 struct Links<A: Allocator> {
     edges: SegmentEdges<A>,
-    table: EdgeTable<A>,
     heads: Vec<u32, A>,
     after: Vec<u32, A>,
     next: Vec<u32, A>,
@@ -96,13 +98,13 @@ impl<A: Allocator> Links<A> {
     fn new(alloc: A) -> Links<A>
     where
         A: Copy,
+        ensures { IsClear result.heads.items }
     {
         Links {
             edges: SegmentEdges {
                 starts: Vec::new(alloc),
                 finishes: Vec::new(alloc),
             },
-            table: EdgeTable::new(alloc),
             heads: Vec::new(alloc),
             after: Vec::new(alloc),
             next: Vec::new(alloc),
@@ -111,14 +113,14 @@ impl<A: Allocator> Links<A> {
 
     /// Links the segments of a plane: at each node, the n-th that ends there is followed by the n-th that starts there.
     fn fill(&mut self, s: &Solid<A>, list: &[Segment]) -> Result<(), AllocError>
-        requires { (z : ℤ) × (list.now ≡ segments s.now.facets z) }
-        ensures { OnOk result (AreLinks list.now self.new.next.items) }
+        requires list { (z : ℤ) × (list.now ≡ segments s.now.facets z) }
+        requires clear { IsClear self.old.heads.items }
+        ensures links { OnOk result (AreLinks list.now self.new.next.items) }
+        ensures clear { IsClear self.new.heads.items }
     {
         let count = slot_count(s, list) as usize;
         self.edges.fill(s, list)?;
-        self.edges.renumber(&mut self.table)?;
-        self.heads.clear();
-        self.heads.resize(self.table.edges.len(), NONE)?;
+        self.heads.resize(s.edge_count() as usize, NONE)?;
         self.after.resize(count, NONE)?;
         self.next.resize(count, NONE)?;
         let heads = self.heads.as_mut_slice();
@@ -155,32 +157,16 @@ impl<A: Allocator> SegmentEdges<A> {
         }
         Ok(())
     }
-
-    /// Replaces the numbers, which are those of the mesh, by the numbers of the edges in a table. The table is filled anew.
-    fn renumber(&mut self, table: &mut EdgeTable<A>) -> Result<(), AllocError>
-        requires starts { length self.old.starts.items ≤ FACET_LIMIT }
-        requires finishes { length self.old.finishes.items ≤ FACET_LIMIT }
-        ensures { OnOk result (AreRenumbered self.old.starts.items self.old.finishes.items table.new.edges.items
-            self.new.starts.items self.new.finishes.items) }
-    {
-        table.clear(2 * self.starts.len() + 1)?;
-        table.number_all(self.starts.as_mut_slice())?;
-        table.number_all(self.finishes.as_mut_slice())?;
-        Ok(())
-    }
 }
 
 /// The number of a facet's edge that is this node.
 fn edge_at(corners: &[u32; 3], numbers: &[u32; 3], node: Node) -> u32
     ensures { result ≡ edge_at_node corners.now numbers.now node }
 {
-    if node.is_between(corners[0], corners[1]) {
-        numbers[0]
-    } else if node.is_between(corners[1], corners[2]) {
-        numbers[1]
-    } else {
-        numbers[2]
-    }
+    let first = usize::from(node.is_between(corners[0], corners[1]));
+    let second = usize::from(node.is_between(corners[1], corners[2]));
+    // without a branch: which edge it is, no processor foresees
+    numbers[(1 - first) * (2 - second)]
 }
 
 /// Pushes each slot at the front of the linked list of the edge where its segment starts. It goes from the last slot to the

@@ -1,8 +1,8 @@
 -- Which edges of a facet pass a height.
-use Rattle.std.specs.Prelude.{◌≡◌, ℕ, zero, suc, ◌<◌, ◌⊎◌, ℤ}
+use Rattle.std.specs.Prelude.{◌≡◌, ℕ, zero, suc, ◌<◌, ◌⊎◌, List, map, ℤ}
 use Rattle.geometry.specs.TieRule.{IsBelow, IsAbove}
 use Rattle.geometry.specs.Point.{Point}
-use Rattle.geometry.specs.Facet.{Facet, corner}
+use Rattle.geometry.specs.Facet.{Facet, corner, corners}
 use Rattle.exact_cut.specs.declared.cut.Cut.{Cut}
 
 -- edge 0 runs from a to b, edge 1 from b to c, edge 2 from c to a
@@ -18,6 +18,10 @@ finish t (suc (suc n)) = t.a
 pub record Rises (u v : Point) (z : ℤ) : Type 0 where
   pub low : IsBelow u.z z
   pub high : IsAbove v.z z
+
+-- the heights of a facet's corners, in order
+abbrev pub corner_heights : Facet → List ℤ
+corner_heights t = map (λ p. p.z) (corners t)
 
 -- some corner counts as below z and some corner is above it
 pub record IsBetween (t : Facet) (z : ℤ) : Type 0 where

@@ -3,8 +3,8 @@ ghost use Rattle.std.specs.Prelude.{◌≡◌, ◌<◌, ◌↔◌, IsTrue, Match
 ghost use Rattle.exact_int.specs.Bounds.{IsAtMost};
 ghost use Rattle.geometry.specs.TieRule.{IsBelow};
 ghost use Rattle.geometry.specs.Point.{half_micrometres_of};
-ghost use Rattle.geometry.specs.Facet.{corner, twice};
-ghost use Rattle.exact_cut.specs.Cut.{IsBetween, IsCut, finish, start};
+ghost use Rattle.geometry.specs.Facet.{Facet, corner, twice};
+ghost use Rattle.exact_cut.specs.Cut.{IsBetween, IsCut, corner_heights, finish, start};
 ghost use Rattle.exact_cut.specs.HalfPoint.{point_of};
 ghost use Rattle.geometry.specs.declared.limits.TheConstants.{CENTRE_LIMIT};
 
@@ -30,27 +30,35 @@ pub fn cuts(f: &Facet, z2: i64) -> Option<Cut>
     ensures { MatchOption result (IsBetween (twice f.now) z2 → ⊥)
         (λ c. IsCut (twice f.now) z2 c) }
 {
-    let a = is_corner_below(f, 0, z2);
-    let b = is_corner_below(f, 1, z2);
-    let c = is_corner_below(f, 2, z2);
-    match (a, b, c) {
-        (true, true, true) | (false, false, false) => None,
-        (true, true, false) => Some(Cut { down: 2, up: 1 }),
-        (true, false, true) => Some(Cut { down: 1, up: 0 }),
-        (true, false, false) => Some(Cut { down: 2, up: 0 }),
-        (false, true, true) => Some(Cut { down: 0, up: 2 }),
-        (false, true, false) => Some(Cut { down: 0, up: 1 }),
-        (false, false, true) => Some(Cut { down: 1, up: 2 }),
-    }
+    cuts_at(&corner_heights(f), z2)
 }
 
-/// Whether the corner with this number counts as below the height `z2`, by the tie rule.
+/// The heights of a facet's corners in micrometres, in their order.
 #[inline(always)]
-fn is_corner_below(f: &Facet, number: usize, z2: i64) -> bool
-    requires { number < 3 }
-    ensures { IsTrue result ↔ IsBelow (corner (twice f.now) number).z z2 }
+pub fn corner_heights(f: &Facet) -> [i32; 3]
+    ensures { result ≡ corner_heights f.now }
 {
-    is_below(corner_at(f, number).z, z2)
+    [f.corner(0).z(), f.corner(1).z(), f.corner(2).z()]
+}
+
+/// [`cuts`] for a facet by its [`corner_heights`].
+#[inline(always)]
+pub fn cuts_at(heights: &[i32; 3], z2: i64) -> Option<Cut>
+    requires { IsAtMost CENTRE_LIMIT z2 }
+    ensures { (f : Facet) → heights.now ≡ corner_heights f → MatchOption result (IsBetween (twice f) z2 → ⊥)
+        (λ c. IsCut (twice f) z2 c) }
+{
+    let [first, second, third] = *heights;
+    let a = is_below(2 * i64::from(first), z2);
+    let b = is_below(2 * i64::from(second), z2);
+    let c = is_below(2 * i64::from(third), z2);
+    if a == b && b == c {
+        return None;
+    }
+    Some(Cut {
+        down: usize::from(!b & c) + 2 * usize::from(!c & a),
+        up: usize::from(b & !c) + 2 * usize::from(c & !a),
+    })
 }
 
 /// A point of a mesh, in half-micrometres.

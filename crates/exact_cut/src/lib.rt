@@ -9,7 +9,8 @@
 //! ray_hit(&f, &Centre::new(5, 4, 10)?)    // 0: the facet lies behind
 //! ```
 //!
-//! - [`Cut`], [`cuts`]: the two edges of a facet that pass a height.
+//! - [`Cut`], [`cuts`]: the two edges of a facet that pass a height; [`corner_heights`], [`cuts_at`]: the same by the heights
+//!   of the corners alone.
 //! - [`Crossing`], [`crossing`]: where a scanline crosses a facet, as a fraction; [`column`]: the first pixel that is not left
 //!   of it.
 //! - [`Lattice`]: the pixel centres of a layer; [`Walk`]: a facet's crossings with all of their rows. A digital differential
@@ -32,7 +33,7 @@ mod plane_point;
 mod scanline;
 
 pub use centre::Centre;
-pub use cut::{Cut, cuts};
+pub use cut::{Cut, corner_heights, cuts, cuts_at};
 pub use dda::lattice::Lattice;
 pub use dda::walk::Walk;
 pub use hit::{ray_hit, ray_hit_y};

@@ -3,14 +3,13 @@
 ghost use Rattle.std.specs.Prelude.{◌≡◌, ◌<◌, ◌↔◌, All, IfOk, IfSome, IsSome, filter_map, length, map};
 ghost use Rattle.exact_int.specs.Bounds.{IsAtMost};
 ghost use Rattle.geometry.specs.Facet.{twice};
-ghost use Rattle.exact_cut.specs.Cut.{IsBetween};
+ghost use Rattle.exact_cut.specs.Cut.{IsBetween, corner_heights};
 ghost use Rattle.mesh_weld.specs.Solid.{facet_at, vertices};
 ghost use Rattle.plane_segments.specs.Segment.{AreThreeNumbers, HasOrderedNodes, edge_node, numbered_segment, segment_of, segments};
 ghost use Rattle.geometry.specs.declared.limits.TheConstants.{CENTRE_LIMIT};
 
 use crate::node::Node;
-use exact_cut::cuts;
-use geometry::Facet;
+use exact_cut::{corner_heights, cuts_at};
 use mesh_weld::Solid;
 use std::alloc::{AllocError, Allocator};
 
@@ -34,13 +33,18 @@ pub fn segment_at<A: Allocator>(s: &Solid<A>, facet: u32, z2: i64) -> Option<Seg
     ensures some { IsSome result ↔ IsBetween (twice (facet_at s.now.facets facet)) z2 }
     ensures ordered { IfSome result HasOrderedNodes }
 {
-    segment_in(s, facet, &s.facet(facet), z2)
+    segment_in(s, facet, &corner_heights(&s.facet(facet)), z2)
 }
 
-/// [`segment_at`] for a facet that was looked up.
-fn segment_in<A: Allocator>(s: &Solid<A>, number: u32, facet: &Facet, z2: i64) -> Option<Segment>
+/// [`segment_at`] for a facet whose corners' heights were looked up.
+fn segment_in<A: Allocator>(
+    s: &Solid<A>,
+    number: u32,
+    heights: &[i32; 3],
+    z2: i64,
+) -> Option<Segment>
     requires number { number < length s.now.facets }
-    requires facet { facet.now ≡ facet_at s.now.facets number }
+    requires heights { heights.now ≡ corner_heights (facet_at s.now.facets number) }
     requires height { IsAtMost CENTRE_LIMIT z2 }
     ensures segment { result ≡ segment_of (vertices s.now.facets) z2 (record { 0 = number; 1 = facet_at s.now.facets number }) }
     ensures some { IsSome result ↔ IsBetween (twice (facet_at s.now.facets number)) z2 }
@@ -48,7 +52,7 @@ fn segment_in<A: Allocator>(s: &Solid<A>, number: u32, facet: &Facet, z2: i64) -
 {
     // wakes the invariant: the corners of a kept facet are distinct
     let _count = s.count();
-    let cut = cuts(facet, z2)?;
+    let cut = cuts_at(heights, z2)?;
     let corners = s.triples()[number as usize];
     Some(Segment {
         facet: number,
@@ -94,7 +98,7 @@ pub fn segments<A: Allocator + Copy + Send + Sync>(
 /// The segments of the kept facets with these numbers at the height `z2` in half-micrometres, at most `geometry::CENTRE_LIMIT`
 /// from 0, in the order of the numbers. A facet that the plane does not cut has none. `Err` only if an allocation failed.
 ///
-/// It looks up all facets before it cuts the first one, so that the waits for memory overlap.
+/// It looks up all heights before it cuts the first facet, so that the waits for memory overlap.
 pub fn segments_in<A: Allocator + Copy>(
     alloc: A,
     s: &Solid<A>,
@@ -106,28 +110,28 @@ pub fn segments_in<A: Allocator + Copy>(
     ensures segments { IfOk result (λ list. list.items ≡ filter_map (numbered_segment s.now.facets z2) numbers.now) }
     ensures ordered { IfOk result (λ list. All HasOrderedNodes list.items) }
 {
-    let facets = facets_in(alloc, s, numbers)?;
+    let heights = heights_in(alloc, s, numbers)?;
     let mut list = Vec::with_capacity(alloc, numbers.len())?;
     for (i, n) in numbers.iter().enumerate() {
-        if let Some(segment) = segment_in(s, *n, &facets[i], z2) {
+        if let Some(segment) = segment_in(s, *n, &heights[i], z2) {
             list.push(segment)?;
         }
     }
     Ok(list)
 }
 
-/// The kept facets with these numbers.
-fn facets_in<A: Allocator>(
+/// The heights of the corners of the kept facets with these numbers.
+fn heights_in<A: Allocator>(
     alloc: A,
     s: &Solid<A>,
     numbers: &[u32],
-) -> Result<Vec<Facet, A>, AllocError>
+) -> Result<Vec<[i32; 3], A>, AllocError>
     requires { All (λ n. n < length s.now.facets) numbers.now }
-    ensures { IfOk result (λ facets. facets.items ≡ map (facet_at s.now.facets) numbers.now) }
+    ensures { IfOk result (λ heights. heights.items ≡ map (λ n. corner_heights (facet_at s.now.facets n)) numbers.now) }
 {
-    let mut facets = Vec::with_capacity(alloc, numbers.len())?;
+    let mut heights = Vec::with_capacity(alloc, numbers.len())?;
     for n in numbers {
-        facets.push(s.facet(*n))?;
+        heights.push(corner_heights(&s.facet(*n)))?;
     }
-    Ok(facets)
+    Ok(heights)
 }

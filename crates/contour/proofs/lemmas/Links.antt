@@ -1,7 +1,7 @@
 -- The edges of the segments of a height: their numbers are below the count, and what the solid's arrays hold of them.
 use Rattle.std.proofs.Common.{◌≡◌, ℕ, ◌+◌, ◌*◌, ◌^◌, ◌<◌, ◌++◌, Bool, true, false, cond, List, [], ◌∷◌, sym, ◌∙◌, ap, subst, length, get_or, take, arith, map}
 use Rattle.std.specs.Prelude.{All}
-use Rattle.std.proofs.lemmas.List.{get_or_default, length-map, map_more}
+use Rattle.std.proofs.lemmas.List.{get_or-map, get_or_default, length-map, map_more}
 use mir.Syntax.{w64}
 use mir.Val.{Fits}
 use Rattle.geometry.specs.Facet.{Facet, corners}
@@ -9,7 +9,7 @@ use Rattle.mesh_weld.specs.Solid.{number_of, triples, vertices}
 use Rattle.mesh_weld.specs.EdgeNumbers.{AreEdgeNumbers}
 use Rattle.plane_segments.specs.Node.{Node, is_node}
 use Rattle.plane_segments.specs.declared.segment.Segment.{Segment}
-use Rattle.plane_segments.specs.Segment.{edge_node}
+use Rattle.plane_segments.specs.Segment.{edge_node, no_segment}
 use Rattle.contour.specs.Linker.{AreSegmentEdges, edge_at_node, edge_of_facet, start_edge, finish_edge}
 
 -- numbers of edges are below their count
@@ -22,6 +22,28 @@ module _ (facets : List Facet) (numbers : List (List ℕ)) (count : ℕ) (number
       by_tests true c = numbered.below facet 0 h (omega arith)
       by_tests false true = numbered.below facet 1 h (omega arith)
       by_tests false false = numbered.below facet 2 h (omega arith)
+
+-- the edges of segments have numbers below the count
+pub segment_edges-below : (facets : List Facet) (list : List Segment) (starts finishes : List ℕ) (n : ℕ) → AreSegmentEdges facets list starts finishes
+    → ((numbers : List (List ℕ)) (count : ℕ) → AreEdgeNumbers facets numbers count → n ≡ count) → All (λ t. t.facet < length facets) list
+    → All (λ e. e < n) starts × All (λ e. e < n) finishes
+segment_edges-below facets list starts finishes n p counted inside = (
+  below start_edge' (λ t h. edge_below facets p.numbers p.count p.numbered t.facet t.from h) starts p.starts_are,
+  below finish_edge' (λ t h. edge_below facets p.numbers p.count p.numbered t.facet t.to h) finishes p.finishes_are,
+)
+  where
+    start_edge' : Segment → ℕ
+    start_edge' = start_edge facets p.numbers
+
+    finish_edge' : Segment → ℕ
+    finish_edge' = finish_edge facets p.numbers
+
+    below : (edge : Segment → ℕ) → ((t : Segment) → t.facet < length facets → edge t < p.count) → (edges : List ℕ) → edges ≡ map edge list → All (λ e. e < n) edges
+    below edge small edges are i d l =
+        let m : i < length list = (let size = ap length are ∙ length-map list edge in omega (arith, l, size)) in
+        let read : get_or edges i d ≡ edge (get_or list i no_segment) = ap (λ xs. get_or xs i d) are ∙ get_or-map edge list i no_segment d m in
+        let less = small (get_or list i no_segment) (inside i no_segment m) in let same = counted p.numbers p.count p.numbered in
+        omega (arith, read, less, same)
 
 pub segment_edges-length : (facets : List Facet) (list : List Segment) (starts finishes : List ℕ) → AreSegmentEdges facets list starts finishes
     → (length starts ≡ length list) × (length finishes ≡ length list)

@@ -1,15 +1,13 @@
 -- One step of a loop over facets: a map, a filter and a prefix with one more element, and one step of the merge.
-use Rattle.std.proofs.Common.{◌≡◌, ℕ, ◌+◌, ◌<◌, ◌≤◌, Bool, true, false, cond, List, [], ◌∷◌, ◌++◌, sym, subst, ◌∙◌, ap, length, take, drop, get_or, map, Some, None, arith}
-use Rattle.std.specs.Prelude.{Option, ℤ, pos, ◌*ℤ◌, filter, filter_map, nat_lt}
-use Rattle.std.specs.List.{prefix_len, cons_option}
+use Rattle.std.proofs.Common.{◌≡◌, ℕ, ◌+◌, ◌<◌, ◌≤◌, Bool, true, false, cond, List, [], ◌∷◌, ◌++◌, sym, subst, ◌∙◌, ap, length, take, drop, get_or, map, arith}
+use Rattle.std.specs.Prelude.{ℤ, pos, ◌*ℤ◌, filter, nat_lt}
+use Rattle.std.specs.List.{prefix_len}
 use Rattle.std.proofs.lemmas.List.{take_more, map_more, map-append, append_assoc, append-nil, drop_more, drop_all, get_or-map}
-use Rattle.std.proofs.lemmas.List.Elements.{filter_map-append, filter_more}
+use Rattle.std.proofs.lemmas.List.Elements.{filter_more}
 use Rattle.std.proofs.lemmas.List.Sums.{prefix_len-drop_yes, prefix_len-drop_no}
 use Rattle.geometry.specs.TieRule.{is_below, is_above}
 use Rattle.geometry.specs.Facet.{Facet, least_z}
-use Rattle.mesh_weld.specs.Solid.{vertices, facet_at, top_of}
-use Rattle.plane_segments.specs.declared.segment.Segment.{Segment}
-use Rattle.plane_segments.specs.Segment.{segment_of, numbered_segment}
+use Rattle.mesh_weld.specs.Solid.{facet_at, top_of}
 use Rattle.contour.specs.Active.{starts_by, ends_above, merge}
 
 pub pushed_tops : (facets : List Facet) (old now new : List ℤ) (xs : List ℕ) (i : ℕ) (top read : ℤ) → i < length xs → now ≡ old ++ map (top_of facets) (take i xs)

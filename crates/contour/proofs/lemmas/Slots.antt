@@ -2,12 +2,12 @@
 -- from the first on.
 use Rattle.std.proofs.Common.{◌≡◌, ℕ, zero, suc, ◌+◌, ◌<◌, ◌≤◌, cond, List, [], ◌∷◌, ◌⊎◌, inl, inr, refl, sym, ◌∙◌, ap, subst, length, take, drop, get_or, set, arith, get_or-set_same, get_or-set_other}
 use Rattle.std.specs.Prelude.{◌==◌}
-use Rattle.std.proofs.lemmas.List.{drop_more, get_or_default, get_or_past, get_or-drop}
+use Rattle.std.proofs.lemmas.List.{drop_more, get_or_default, get_or_past, get_or-drop, take_all}
 use Rattle.std.proofs.lemmas.List.Sums.{count_by_more_yes, count_by_more_no}
 use Rattle.std.proofs.lemmas.Bool.{cases_eq, cases_lt, eq-eqb, ne_eqb}
-use Rattle.contour.specs.Linker.{ArePopped, HasFirsts, HasLeft, HasNexts, slot_after, slots}
+use Rattle.contour.specs.Linker.{ArePopped, HasFirsts, HasLeft, HasNexts, IsClear, slot_after, slots}
 use Rattle.contour.specs.declared.linker.TheConstants.{NONE}
-use Rattle.contour.proofs.lemmas.Counts.{times, times-own, times-other}
+use Rattle.contour.proofs.lemmas.Counts.{AreEven, times, times-own, times-other}
 use Rattle.geometry.specs.declared.limits.TheConstants.{FACET_LIMIT}
 
 slots-own : (n x e : ℕ) (xs : List ℕ) → x ≡ e → slots n e (x ∷ xs) ≡ n ∷ slots (n + 1) e xs
@@ -153,3 +153,10 @@ module _ (heads starts finishes : List ℕ) (i : ℕ) (l : i < length finishes) 
         by_test (inr s) =
             get_or-set_other heads (get_or finishes i 0) e v NONE (λ r. s (sym r)) ∙ left e
             ∙ ap (λ k. get_or (slots 0 e starts) k NONE) (sym (count_by_more_no (λ f. f == e) finishes i 0 l (ne_eqb (get_or finishes i 0) e s)))
+
+-- ---- after all pops the linked lists are empty, if each edge starts as often as it finishes
+pub left-clear : (heads starts finishes : List ℕ) → AreEven starts finishes → HasLeft heads starts finishes (length finishes) → IsClear heads
+left-clear heads starts finishes even left e =
+    let all : times e (take (length finishes) finishes) ≡ times e finishes = ap (times e) (take_all (length finishes) finishes (omega arith)) in
+    let few = length-slots 0 e starts in let same = even e in
+    left e ∙ get_or_past (slots 0 e starts) (times e (take (length finishes) finishes)) NONE (omega (arith, all, few, same))

@@ -1,5 +1,7 @@
 -- Which edges pass a height, by where the corners lie.
-use Rattle.std.proofs.Common.{◌≡◌, ◌↔◌, IsTrue, true, false, ℕ, zero, suc, ◌<◌, ◌⊎◌, ℤ, refl, subst, arith, inl, inr}
+use Rattle.std.proofs.Common.{◌≡◌, ◌↔◌, IsTrue, Bool, true, false, not, ◌&&◌, ℕ, ◌+◌, ◌*◌, zero, suc, ◌<◌, ◌⊎◌, ℤ, refl, subst, arith, inl, inr}
+use mir.Val.{bool_byte}
+use mathlib.Core.Bool.{beq}
 use Rattle.exact_int.proofs.lemmas.Signs.{at_most_or_above, not_both}
 use Rattle.geometry.specs.TieRule.{IsBelow, IsAbove}
 use Rattle.geometry.specs.Point.{Point}
@@ -19,6 +21,16 @@ above_by {height} {z'} e h = subst (IsAbove height) e (by (at_most_or_above heig
     by : IsBelow height z' ⊎ IsAbove height z' → IsAbove height z'
     by (inl k) = let never = h.1 k in absurd (cc)
     by (inr k) = k
+
+-- where a corner of this height lies, by the result of the tie rule
+abbrev pub IsSide : Bool → ℤ → ℤ → Type 0
+IsSide true height z = IsBelow height z
+IsSide false height z = IsAbove height z
+
+-- the same, if the code's numbers are the height and the plane
+pub side_by : (below : Bool) {height' height z' z : ℤ} → height' ≡ height → z' ≡ z → IsTrue below ↔ IsBelow height' z' → IsSide below height z
+side_by true {z = z} e g h = subst (λ y. IsBelow y z) e (below_by g h)
+side_by false {z = z} e g h = subst (λ y. IsAbove y z) e (above_by g h)
 
 not_low : (u v : Point) (z : ℤ) → IsAbove u.z z → Rises u v z → ⊥
 not_low u v z h k = not_both z u.z h k.low
@@ -128,3 +140,25 @@ cut-above-above-above t z a b c h = by h.some_below
     by (inl k) = not_both z t.a.z a k
     by (inr (inl k)) = not_both z t.b.z b k
     by (inr (inr k)) = not_both z t.c.z c k
+
+-- the same eight, by the results of the tie rule for the corners
+pub not_cut : (a b c : Bool) (t : Facet) (z : ℤ) → beq a b ≡ true → beq b c ≡ true
+    → IsSide a t.a.z z → IsSide b t.b.z z → IsSide c t.c.z z → IsBetween t z → ⊥
+not_cut true true true t z e g = cut-below-below-below t z
+not_cut true true false t z e g = absurd (cc)
+not_cut true false c t z e g = absurd (cc)
+not_cut false true c t z e g = absurd (cc)
+not_cut false false true t z e g = absurd (cc)
+not_cut false false false t z e g = cut-above-above-above t z
+
+pub cut_by : (a b c : Bool) (t : Facet) (z : ℤ) → (beq a b ≡ true → beq b c ≡ true → ⊥)
+    → IsSide a t.a.z z → IsSide b t.b.z z → IsSide c t.c.z z
+    → IsCut t z (record { down = bool_byte (not b && c) + 2 * bool_byte (not c && a); up = bool_byte (b && not c) + 2 * bool_byte (c && not a) })
+cut_by true true true t z none = absurd (none refl refl)
+cut_by true true false t z none = cut-below-below-above t z
+cut_by true false true t z none = cut-below-above-below t z
+cut_by true false false t z none = cut-below-above-above t z
+cut_by false true true t z none = cut-above-below-below t z
+cut_by false true false t z none = cut-above-below-above t z
+cut_by false false true t z none = cut-above-above-below t z
+cut_by false false false t z none = absurd (none refl refl)

@@ -81,6 +81,7 @@ impl<A: Allocator + Copy> CornerTable<A> {
     /// all ids if the tag of the entry there is another one.
     pub(crate) fn guess_ids(&self, facets: &[Facet], guesses: &mut [[u32; 3]]) {
         let (entries, shift) = (self.entries.as_slice(), self.shift);
+        // all hashes first, then all entries, so that the waits for memory overlap
         let mut hashes = [[0; 3]; BLOCK];
         for (own, facet) in hashes.iter_mut().zip(facets) {
             *own = [
