@@ -1,6 +1,6 @@
 //! The layout of facets: what a file writes before, between and after the numbers of a facet. Most files write it with the same
 //! bytes in each facet. So these are compared as a whole, and not read word by word.
-ghost use Rattle.std.specs.Prelude.{◌≡◌, ◌≢◌, ◌≤◌, ◌<◌, ℕ, [], ◌∷◌, ◌++◌, IfSome, List, None, Ok, Some, length, nat_le, not, take, true, ℤ};
+ghost use Rattle.std.specs.Prelude.{◌≡◌, ◌≢◌, ◌≤◌, ◌<◌, ℕ, [], ◌∷◌, ◌++◌, ◌+◌, ◌↔◌, IfSome, IsTrue, List, None, Ok, Some, length, nat_le, not, take, true, ℤ};
 ghost use Rattle.std.specs.List.{list_all, prefix_len};
 ghost use Rattle.micro_num.specs.Micrometres.{coordinate_of};
 ghost use Rattle.stl_text.specs.Layout.{IsClosing, IsSeparator, Skips, separator_tokens};
@@ -133,7 +133,44 @@ fn after_bytes<'t>(text: &'t [u8], bytes: &[u8]) -> Option<&'t [u8]>
         return None;
     }
     let (front, rest) = text.split_at(bytes.len());
-    if front == bytes { Some(rest) } else { None }
+    if are_equal(front, bytes) {
+        Some(rest)
+    } else {
+        None
+    }
+}
+
+/// Whether two texts of the same length are equal. Most separators have 8 to 32 bytes. So two looks, at the first bytes and at
+/// the last, see all of one.
+#[inline(always)]
+fn are_equal(a: &[u8], b: &[u8]) -> bool
+    requires { length a.now ≡ length b.now }
+    ensures { IsTrue result ↔ (a.now ≡ b.now) }
+{
+    match b.len() {
+        8..16 => have_equal_ends::<8>(a, b),
+        16..=32 => have_equal_ends::<16>(a, b),
+        _ => a == b,
+    }
+}
+
+/// Whether two texts of the same length, from `N` to twice `N` bytes, are equal.
+#[inline(always)]
+fn have_equal_ends<const N: usize>(a: &[u8], b: &[u8]) -> bool
+    requires same { length a.now ≡ length b.now }
+    requires some { N ≤ length b.now }
+    requires most { length b.now ≤ N + N }
+    ensures { IsTrue result ↔ (a.now ≡ b.now) }
+{
+    match (
+        a.first_chunk::<N>(),
+        a.last_chunk::<N>(),
+        b.first_chunk::<N>(),
+        b.last_chunk::<N>(),
+    ) {
+        (Some(p), Some(q), Some(r), Some(s)) => (*p == *r) & (*q == *s),
+        _ => false,
+    }
 }
 
 /// The text after its first word, if it has one. It is out of line: few words of a normal are longer than 16 bytes or have more

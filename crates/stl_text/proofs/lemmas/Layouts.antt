@@ -1,7 +1,7 @@
 -- A facet in a layout: separators and what comes between them.
-use Rattle.std.proofs.Common.{◌≡◌, ℕ, ◌-◌, ◌<◌, ◌≤◌, Bool, true, false, List, [], ◌∷◌, ◌++◌, length, drop, refl, sym, ◌∙◌, ap, subst, arith, length-drop}
+use Rattle.std.proofs.Common.{◌≡◌, ℕ, ◌+◌, ◌-◌, ◌<◌, ◌≤◌, Bool, true, false, List, [], ◌∷◌, ◌++◌, length, take, drop, refl, sym, ◌∙◌, ap, subst, arith, length-drop}
 use Rattle.std.specs.Prelude.{Option, Some, None, nat_lt, if◌then◌else◌}
-use Rattle.std.proofs.lemmas.List.{drop-append-le}
+use Rattle.std.proofs.lemmas.List.{drop-append-le, drop-drop, take-append-drop}
 use Rattle.micro_num.specs.declared.unit.Unit.{Unit as LengthUnit}
 use Rattle.geometry.specs.Facet.{Facet, facet_with}
 use Rattle.geometry.specs.Point.{Point}
@@ -17,6 +17,21 @@ use Rattle.stl_text.proofs.lemmas.Locality.{space-over, tokens-on}
 use Rattle.stl_text.proofs.lemmas.FacetRuns.{rest_after-rest, same_rest}
 use Rattle.stl_text.proofs.lemmas.Either.{after_word-lt, rest-le}
 use Rattle.stl_text.proofs.lemmas.Steps.{spelled-append, spells_then}
+
+-- two lists of the same length are equal if their first n elements are, and their last n, which meet or overlap
+pub ends-equal : (xs ys : List ℕ) (n : ℕ) → length xs ≡ length ys → n ≤ length ys → length ys ≤ n + n
+    → take n xs ≡ take n ys → drop (length xs - n) xs ≡ drop (length ys - n) ys → xs ≡ ys
+ends-equal xs ys n same some most first last =
+    sym (take-append-drop n xs) ∙ (λ i. first i ++ rest i) ∙ take-append-drop n ys
+  where
+    k : ℕ
+    k = length ys - n
+
+    rest : drop n xs ≡ drop n ys
+    rest =
+        let up : n ≡ k + (n - k) = omega (arith, some, most) in
+        ap (λ m. drop m xs) up ∙ sym (drop-drop (n - k) k xs) ∙ ap (λ m. drop (n - k) (drop (m - n) xs)) (sym same)
+        ∙ ap (drop (n - k)) last ∙ drop-drop (n - k) k ys ∙ ap (λ m. drop m ys) (sym up)
 
 -- whether a token is a word, and no rest of a line
 abbrev is_word_token : Token → Bool

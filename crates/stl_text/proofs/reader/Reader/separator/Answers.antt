@@ -1,5 +1,5 @@
 use Rattle.std.proofs.Common.{◌∷◌, [], refl, ap}
-use Rattle.std.specs.Prelude.{None, Option, if◌then◌else◌}
+use Rattle.std.specs.Prelude.{None, if◌then◌else◌}
 use Rattle.std.proofs.lemmas.Option.{IfSome_then}
 use Rattle.stl_text.specs.Text.{keyword_of, after_word, rest_after}
 use Rattle.stl_text.specs.declared.word.Word.TheVariants.{EndLoop, EndFacet}
