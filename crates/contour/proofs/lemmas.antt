@@ -7,6 +7,8 @@ pub mod Sweeps
 pub mod Links
 pub mod LoopRays
 pub mod Slots
+pub mod EdgeTables
+pub mod Renumbering
 pub mod Balanced
 pub mod Runs
 pub mod Followers

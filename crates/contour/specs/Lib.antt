@@ -1,4 +1,5 @@
 pub mod Active
+pub mod EdgeTable
 pub mod Linker
 pub mod Loops
 pub mod Outlines

@@ -10,6 +10,7 @@ use Rattle.plane_segments.specs.Node.{Node, is_node}
 use Rattle.plane_segments.specs.declared.segment.Segment.{Segment}
 use Rattle.plane_segments.specs.Segment.{edge_node, no_segment}
 use Rattle.contour.specs.declared.linker.TheConstants.{NONE}
+use Rattle.contour.specs.EdgeTable.{AreDistinct}
 use Rattle.contour.specs.Loops.{AreEnds, IsCycle, count_of, first_facet, follower, is_from_least, parts_from}
 
 -- the number of the edge that is this node, for a facet by the numbers of its corners and of its edges
@@ -35,6 +36,18 @@ pub record AreSegmentEdges (facets : List Facet) (list : List Segment) (starts f
   pub numbered : AreEdgeNumbers facets numbers count
   pub starts_are : starts ≡ map (start_edge facets numbers) list
   pub finishes_are : finishes ≡ map (finish_edge facets numbers) list
+
+-- the numbers of edges in a list, by their positions in a table
+pub record AreNumbers (edges list numbers : List ℕ) : Type 0 where
+  pub size : length numbers ≡ length list
+  pub within : (j : ℕ) → j < length list → slice_index numbers j < length edges
+  pub is : (j : ℕ) → j < length list → slice_index edges (slice_index numbers j) ≡ slice_index list j
+
+-- starts and finishes by the numbers that a table gives to edges
+pub record AreRenumbered (starts finishes edges new_starts new_finishes : List ℕ) : Type 0 where
+  pub distinct : AreDistinct edges
+  pub starts_are : AreNumbers edges starts new_starts
+  pub finishes_are : AreNumbers edges finishes new_finishes
 
 -- the slots of an edge: its positions in a list of edges, with n as the first slot
 abbrev pub slots : ℕ → ℕ → List ℕ → List ℕ

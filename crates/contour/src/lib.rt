@@ -14,7 +14,8 @@
 //! - [`Segment`], [`Node`], [`segment_at`], [`segments`]: the cuts of one facet and of all facets by a plane, re-exported from
 //!   `plane_segments`.
 //! - [`Sweep`]: a rising plane with its list of active facets, those that it cuts.
-//! - [`Loops`], [`Linker`], [`loops`]: the loops of a plane's segments. A linker keeps its memory from plane to plane.
+//! - [`Loops`], [`Linker`], [`loops`]: the loops of a plane's segments. A linker keeps its memory from plane to plane. Once it
+//!   has linked many segments, it keeps four bytes for each edge of the mesh too.
 //! - [`Outlines`]: the loops as points, to the nearest half-micrometre, each a [`PlanePoint`].
 //! - [`loop_ray`]: the signed ray crossings of one loop's facets.
 //! - [`hold_loop_laws`]: states what holds of every loop.
@@ -24,6 +25,7 @@
 #![tactic(auto)]
 
 mod active;
+mod edge_table;
 mod laws;
 mod linker;
 mod loop_list;

@@ -1,21 +1,26 @@
-//! Linking finds the loops of a plane's segments in time of their number, however large the mesh is. A slot is a position in
-//! the plane's list. The segments that start at an edge form a linked list:
-//! - `heads[e]` is the slot of the first segment that starts at the mesh's edge with the number `e`;
+//! Linking finds the loops of a plane's segments in time of their number, however large the mesh is, unless most of their edges
+//! fall into one bucket of an `EdgeTable`. A slot is a position in the plane's list. The segments that start at an edge form a
+//! linked list:
+//! - `heads[e]` is the slot of the first segment that starts at the edge with the number `e`;
 //! - `after[i]` is the slot of the next segment that starts at the same edge as that in slot `i`;
 //! - [`NONE`] is the end of a list.
 //!
 //! Each segment takes the head of the list of the edge where it ends. That is its follower, and `next` keeps its slot. As many
 //! segments end at an edge as start there. So all lists are empty again, and the next plane needs no new heads. Then the loops
 //! are traced from follower to follower, with a flag for each slot that was visited.
+//!
+//! At first the edges of each plane get numbers of their own, from a table. Once many segments were linked, `heads` has a place
+//! for each edge of the mesh, by the mesh's own numbers. That saves the table, and takes one pass over all edges.
 ghost use Rattle.std.specs.Prelude.{[], ◌++◌, true, false, ◌≡◌, ◌<◌, ◌≤◌, ℕ, ℤ, All, List, IfOk, OnOk, length, slice_index_or};
 ghost use Rattle.exact_int.specs.Bounds.{IsAtMost};
 ghost use Rattle.mesh_weld.specs.Balance.{IsBalanced};
 ghost use Rattle.plane_segments.specs.Segment.{HasOrderedNodes, segments};
 ghost use Rattle.contour.specs.Loops.{AreLoops, loops};
-ghost use Rattle.contour.specs.Linker.{AreLinks, AreSegmentEdges, ArePopped, AreTraced, HasFirsts, HasLeft, HasNexts, InFacetOrder, IsClear, IsTracedLoop, KeepsLoopsWhole, edge_at_node, is_visited};
+ghost use Rattle.contour.specs.Linker.{AreLinks, AreRenumbered, AreSegmentEdges, ArePopped, AreTraced, HasFirsts, HasLeft, HasNexts, InFacetOrder, IsClear, IsTracedLoop, KeepsLoopsWhole, edge_at_node, is_visited};
 ghost use Rattle.contour.specs.declared.linker.TheConstants.{NONE};
 ghost use Rattle.geometry.specs.declared.limits.TheConstants.{CENTRE_LIMIT, FACET_LIMIT};
 
+use crate::edge_table::EdgeTable;
 use crate::loop_list::Loops;
 use mesh_weld::Solid;
 use plane_segments::{Node, Segment};
@@ -25,7 +30,11 @@ use std::marker::Model;
 /// The slot of no segment.
 const NONE: u32 = u32::MAX;
 
-/// Links the segments of planes into loops. Its lists are filled anew for each plane, and are kept only for their memory.
+/// The number of a mesh's edges for each segment that was linked before `heads` has a place for all of them.
+const EDGES_A_SEGMENT: usize = 16;
+
+/// Links the segments of planes into loops. Between two planes the heads of all lists are empty. The other lists are filled anew
+/// for each plane, and are kept only for their memory.
 #[derive(Drop)]
 pub struct Linker<A: Allocator> {
     alloc: A,
@@ -84,13 +93,16 @@ fn slot_count<A: Allocator>(s: &Solid<A>, list: &[Segment]) -> u32
 }
 
 /// The links of a plane's segments: for each, `next` has the slot of its follower, and `after` the slot of the next segment
-/// that starts at the same edge. Between two planes all of `heads` is [`NONE`].
+/// that starts at the same edge. Between two planes all of `heads` is [`NONE`]. `linked` is the number of segments that were
+/// linked, at most `usize::MAX`.
 #[derive(Drop)]
 struct Links<A: Allocator> {
     edges: SegmentEdges<A>,
+    table: EdgeTable<A>,
     heads: Vec<u32, A>,
     after: Vec<u32, A>,
     next: Vec<u32, A>,
+    linked: usize,
 }
 
 impl<A: Allocator> Links<A> {
@@ -105,9 +117,11 @@ impl<A: Allocator> Links<A> {
                 starts: Vec::new(alloc),
                 finishes: Vec::new(alloc),
             },
+            table: EdgeTable::new(alloc),
             heads: Vec::new(alloc),
             after: Vec::new(alloc),
             next: Vec::new(alloc),
+            linked: 0,
         }
     }
 
@@ -120,13 +134,17 @@ impl<A: Allocator> Links<A> {
     {
         let count = slot_count(s, list) as usize;
         self.edges.fill(s, list)?;
-        self.heads.resize(s.edge_count() as usize, NONE)?;
+        let edges = self
+            .edges
+            .number(&mut self.table, self.linked, s.edge_count())?;
         self.after.resize(count, NONE)?;
         self.next.resize(count, NONE)?;
+        self.heads.resize(edges, NONE)?;
         let heads = self.heads.as_mut_slice();
         let after = self.after.as_mut_slice();
         push_starts(heads, &self.edges, after);
         pop_starts(heads, &self.edges, after, self.next.as_mut_slice());
+        self.linked = self.linked.saturating_add(count);
         Ok(())
     }
 }
@@ -157,16 +175,57 @@ impl<A: Allocator> SegmentEdges<A> {
         }
         Ok(())
     }
+
+    /// Returns how many numbers of edges there are, each below this. They become those of the table, which is filled anew, until
+    /// many segments were linked. Then they stay those of the mesh, which has `edge_count` of them.
+    fn number(
+        &mut self,
+        table: &mut EdgeTable<A>,
+        linked: usize,
+        edge_count: u32,
+    ) -> Result<usize, AllocError>
+        requires starts { length self.old.starts.items ≤ FACET_LIMIT }
+        requires finishes { length self.old.finishes.items ≤ FACET_LIMIT }
+        requires starts_below { All (λ e. e < edge_count) self.old.starts.items }
+        requires finishes_below { All (λ e. e < edge_count) self.old.finishes.items }
+        ensures { IfOk result (λ count. (edges : List ℕ) × (length edges ≡ count)
+            × AreRenumbered self.old.starts.items self.old.finishes.items edges self.new.starts.items self.new.finishes.items) }
+    {
+        let edge_count = edge_count as usize;
+        if linked < edge_count / EDGES_A_SEGMENT {
+            self.renumber(table)?;
+            Ok(table.edges.len())
+        } else {
+            Ok(edge_count)
+        }
+    }
+
+    /// Replaces the numbers, which are those of the mesh, by the numbers of the edges in a table. The table is filled anew.
+    fn renumber(&mut self, table: &mut EdgeTable<A>) -> Result<(), AllocError>
+        requires starts { length self.old.starts.items ≤ FACET_LIMIT }
+        requires finishes { length self.old.finishes.items ≤ FACET_LIMIT }
+        ensures { OnOk result (AreRenumbered self.old.starts.items self.old.finishes.items table.new.edges.items
+            self.new.starts.items self.new.finishes.items) }
+    {
+        table.clear(2 * self.starts.len() + 1)?;
+        table.number_all(self.starts.as_mut_slice())?;
+        table.number_all(self.finishes.as_mut_slice())?;
+        Ok(())
+    }
 }
 
 /// The number of a facet's edge that is this node.
 fn edge_at(corners: &[u32; 3], numbers: &[u32; 3], node: Node) -> u32
     ensures { result ≡ edge_at_node corners.now numbers.now node }
 {
-    let first = usize::from(node.is_between(corners[0], corners[1]));
-    let second = usize::from(node.is_between(corners[1], corners[2]));
-    // without a branch: which edge it is, no processor foresees
-    numbers[(1 - first) * (2 - second)]
+    let [first, second, third] = *numbers;
+    if node.is_between(corners[0], corners[1]) {
+        first
+    } else if node.is_between(corners[1], corners[2]) {
+        second
+    } else {
+        third
+    }
 }
 
 /// Pushes each slot at the front of the linked list of the edge where its segment starts. It goes from the last slot to the
