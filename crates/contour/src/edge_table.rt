@@ -5,7 +5,7 @@
 //! - `before[k]` is the same of the numbers below `k`, for the bucket of `edges[k]`.
 //!
 //! So a search goes through the edges of one bucket, from the last to the first. The hash spreads the edges of a mesh evenly: no
-//! bucket has many more of them than another. So a search is short, unless most edges of an unlucky plane are in one bucket.
+//! bucket has many more of them than another. So a search is short, unless many edges of an unlucky plane are in one bucket.
 ghost use Rattle.std.specs.Prelude.{◌≡◌, ◌≢◌, ◌+◌, ◌*◌, ◌<◌, ◌≤◌, ◌++◌, ◌∷◌, [], ℕ, IfNone, IfOk, IfSome, OnOk, length, slice_index};
 ghost use Rattle.contour.specs.EdgeTable.{AreNumbered, IsNumbered, IsTable, bucket};
 ghost use Rattle.geometry.specs.declared.limits.TheConstants.{FACET_LIMIT};

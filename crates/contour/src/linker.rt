@@ -1,4 +1,4 @@
-//! Linking finds the loops of a plane's segments in time of their number, however large the mesh is, unless most of their edges
+//! Linking finds the loops of a plane's segments in time of their number, however large the mesh is, unless many of their edges
 //! fall into one bucket of an `EdgeTable`. A slot is a position in the plane's list. The segments that start at an edge form a
 //! linked list:
 //! - `heads[e]` is the slot of the first segment that starts at the edge with the number `e`;
@@ -9,8 +9,9 @@
 //! segments end at an edge as start there. So all lists are empty again, and the next plane needs no new heads. Then the loops
 //! are traced from follower to follower, with a flag for each slot that was visited.
 //!
-//! At first the edges of each plane get numbers of their own, from a table. Once many segments were linked, `heads` has a place
-//! for each edge of the mesh, by the mesh's own numbers. That saves the table, and takes one pass over all edges.
+//! At first the edges of each plane get numbers of their own, from a table. Once a sixteenth as many segments were linked as the
+//! mesh has edges, `heads` has a place for each edge, by the mesh's own numbers. That takes one pass over all edges, and saves
+//! the table.
 ghost use Rattle.std.specs.Prelude.{[], ◌++◌, true, false, ◌≡◌, ◌<◌, ◌≤◌, ℕ, ℤ, All, List, IfOk, OnOk, length, slice_index_or};
 ghost use Rattle.exact_int.specs.Bounds.{IsAtMost};
 ghost use Rattle.mesh_weld.specs.Balance.{IsBalanced};
@@ -30,7 +31,7 @@ use std::marker::Model;
 /// The slot of no segment.
 const NONE: u32 = u32::MAX;
 
-/// The number of a mesh's edges for each segment that was linked before `heads` has a place for all of them.
+/// `heads` gets a place for each edge of a mesh once one segment for this many edges was linked.
 const EDGES_A_SEGMENT: usize = 16;
 
 /// Links the segments of planes into loops. Between two planes the heads of all lists are empty. The other lists are filled anew
@@ -93,8 +94,7 @@ fn slot_count<A: Allocator>(s: &Solid<A>, list: &[Segment]) -> u32
 }
 
 /// The links of a plane's segments: for each, `next` has the slot of its follower, and `after` the slot of the next segment
-/// that starts at the same edge. Between two planes all of `heads` is [`NONE`]. `linked` is the number of segments that were
-/// linked, at most `usize::MAX`.
+/// that starts at the same edge. Between two planes all of `heads` is [`NONE`]. `linked` is the number of all segments so far.
 #[derive(Drop)]
 struct Links<A: Allocator> {
     edges: SegmentEdges<A>,
@@ -133,18 +133,18 @@ impl<A: Allocator> Links<A> {
         ensures clear { IsClear self.new.heads.items }
     {
         let count = slot_count(s, list) as usize;
+        self.linked = self.linked.saturating_add(count);
         self.edges.fill(s, list)?;
         let edges = self
             .edges
             .number(&mut self.table, self.linked, s.edge_count())?;
         self.after.resize(count, NONE)?;
         self.next.resize(count, NONE)?;
-        self.heads.resize(edges, NONE)?;
+        self.heads.resize(edges.max(self.heads.len()), NONE)?;
         let heads = self.heads.as_mut_slice();
         let after = self.after.as_mut_slice();
         push_starts(heads, &self.edges, after);
         pop_starts(heads, &self.edges, after, self.next.as_mut_slice());
-        self.linked = self.linked.saturating_add(count);
         Ok(())
     }
 }
@@ -176,8 +176,8 @@ impl<A: Allocator> SegmentEdges<A> {
         Ok(())
     }
 
-    /// Returns how many numbers of edges there are, each below this. They become those of the table, which is filled anew, until
-    /// many segments were linked. Then they stay those of the mesh, which has `edge_count` of them.
+    /// Returns a number that all numbers of the edges are below. Until many segments were linked, they become those of the table,
+    /// which is filled anew. Then they stay those of the mesh, which has `edge_count` edges.
     fn number(
         &mut self,
         table: &mut EdgeTable<A>,

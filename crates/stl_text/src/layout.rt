@@ -140,8 +140,8 @@ fn after_bytes<'t>(text: &'t [u8], bytes: &[u8]) -> Option<&'t [u8]>
     }
 }
 
-/// Whether two texts of the same length are equal. Most separators have 8 to 32 bytes. Their first 8 or 16 bytes and their last,
-/// which may overlap, are all of them.
+/// Whether two texts of the same length are equal. Most separators have 8 to 32 bytes. The first 8 or 16 bytes of such a text and
+/// its last, which may overlap, are all of it.
 #[inline(always)]
 fn are_equal(a: &[u8], b: &[u8]) -> bool
     requires { length a.now ≡ length b.now }
@@ -170,7 +170,7 @@ fn have_equal_ends<const N: usize>(a: &[u8], b: &[u8]) -> bool
     ) {
         // both tests at once, without a branch between them
         (Some(p), Some(q), Some(r), Some(s)) => (*p == *r) & (*q == *s),
-        // never reached: both have `N` bytes
+        // never reached: each has at least `N` bytes
         _ => false,
     }
 }

@@ -71,7 +71,7 @@ renumbered-popped starts finishes edges new_starts new_finishes next n p few pop
         times-by_tests _ _ j new_finishes finishes p.finishes_are.size
         (same_tests edges p.distinct (get_or new_finishes j 0) (p.finishes_are.within j short) finishes new_finishes p.finishes_are)
 
-pub numbers-below : (edges list numbers : List ℕ) (n : ℕ) → AreNumbers edges list numbers → n ≡ length edges → All (λ e. e < n) numbers
+pub numbers-below : (edges list numbers : List ℕ) (n : ℕ) → AreNumbers edges list numbers → length edges ≤ n → All (λ e. e < n) numbers
 numbers-below edges list numbers n p size k d l =
     let m : k < length list = (let s = p.size in omega (arith, l, s)) in
     let same = get_or_default numbers k d 0 l in let low = p.within k m in omega (arith, same, low, size)
@@ -102,7 +102,7 @@ renumbered-even starts finishes edges new_starts new_finishes p even k = by_use 
         ∙ all (get_or edges k 0) list (length list) (omega arith)
 
     none : length edges ≤ k → (list numbers : List ℕ) → AreNumbers edges list numbers → times k numbers ≡ 0
-    none low list numbers q = none_of k numbers (more_than k (length edges) numbers low (numbers-below edges list numbers (length edges) q refl))
+    none low list numbers q = none_of k numbers (more_than k (length edges) numbers low (numbers-below edges list numbers (length edges) q (omega arith)))
 
     by_use : (k < length edges) ⊎ (length edges ≤ k) → times k new_starts ≡ times k new_finishes
     by_use (inl l) = same l starts new_starts p.starts_are ∙ even (get_or edges k 0) ∙ sym (same l finishes new_finishes p.finishes_are)
