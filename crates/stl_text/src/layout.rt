@@ -148,29 +148,45 @@ fn are_equal(a: &[u8], b: &[u8]) -> bool
     ensures { IsTrue result ↔ (a.now ≡ b.now) }
 {
     match b.len() {
-        8..16 => have_equal_ends::<8>(a, b),
-        16..=32 => have_equal_ends::<16>(a, b),
+        8..16 => have_equal_ends(a, b),
+        16..=32 => have_equal_long_ends(a, b),
         _ => a == b,
     }
 }
 
-/// Whether two texts of the same length, from `N` to twice `N` bytes, are equal.
+/// Whether two texts of the same length, from 16 to 32 bytes, are equal. Sixteen bytes are two looks too, since the compiler
+/// makes a call of a comparison of 16.
 #[inline(always)]
-fn have_equal_ends<const N: usize>(a: &[u8], b: &[u8]) -> bool
+fn have_equal_long_ends(a: &[u8], b: &[u8]) -> bool
     requires same { length a.now ≡ length b.now }
-    requires some { N ≤ length b.now }
-    requires most { length b.now ≤ N + N }
+    requires some { 16 ≤ length b.now }
+    requires most { length b.now ≤ 32 }
+    ensures { IsTrue result ↔ (a.now ≡ b.now) }
+{
+    let (a_front, _) = a.split_at(16);
+    let (b_front, _) = b.split_at(16);
+    let (_, a_end) = a.split_at(a.len() - 16);
+    let (_, b_end) = b.split_at(b.len() - 16);
+    have_equal_ends(a_front, b_front) & have_equal_ends(a_end, b_end)
+}
+
+/// Whether two texts of the same length, from 8 to 16 bytes, are equal.
+#[inline(always)]
+fn have_equal_ends(a: &[u8], b: &[u8]) -> bool
+    requires same { length a.now ≡ length b.now }
+    requires some { 8 ≤ length b.now }
+    requires most { length b.now ≤ 16 }
     ensures { IsTrue result ↔ (a.now ≡ b.now) }
 {
     match (
-        a.first_chunk::<N>(),
-        a.last_chunk::<N>(),
-        b.first_chunk::<N>(),
-        b.last_chunk::<N>(),
+        a.first_chunk::<8>(),
+        a.last_chunk::<8>(),
+        b.first_chunk::<8>(),
+        b.last_chunk::<8>(),
     ) {
         // both tests at once, without a branch between them
         (Some(p), Some(q), Some(r), Some(s)) => (*p == *r) & (*q == *s),
-        // never reached: each has at least `N` bytes
+        // never reached: each has at least 8 bytes
         _ => false,
     }
 }
