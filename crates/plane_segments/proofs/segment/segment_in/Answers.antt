@@ -11,10 +11,12 @@ use Rattle.plane_segments.proofs.lemmas.NodeOrder.{three_numbers}
 use Rattle.plane_segments.proofs.segment.segment_in.Goals as goal
 
 pub edge_node-requires-clause-edge : goal.edge_node-requires-clause-edge
-edge_node-requires-clause-edge g c = (c.in_ok-cut.ensures (facet_at c.args.s.now.facets c.args.number) c.requires.heights).down_in
+edge_node-requires-clause-edge g c =
+    let cut = c.in_ok-cut.ensures (facet_at c.args.s.now.facets c.args.number) c.requires.heights in omega (arith, cut.down_in, cut.up_in)
 
 pub edge_node-requires-2-clause-edge : goal.edge_node-requires-2-clause-edge
-edge_node-requires-2-clause-edge g c = (c.in_ok-cut.ensures (facet_at c.args.s.now.facets c.args.number) c.requires.heights).up_in
+edge_node-requires-2-clause-edge g c =
+    let cut = c.in_ok-cut.ensures (facet_at c.args.s.now.facets c.args.number) c.requires.heights in omega (arith, cut.down_in, cut.up_in)
 
 pub edge_node-requires-clause-distinct : goal.edge_node-requires-clause-distinct
 edge_node-requires-clause-distinct g c =
