@@ -154,8 +154,8 @@ fn are_equal(a: &[u8], b: &[u8]) -> bool
     }
 }
 
-/// Whether two texts of the same length, from 16 to 32 bytes, are equal. Sixteen bytes are two looks too, since the compiler
-/// makes a call of a comparison of 16.
+/// Whether two texts of the same length, from 16 to 32 bytes, are equal. Each look is at 8 bytes: a comparison of 16 would be
+/// compiled to a call.
 #[inline(always)]
 fn have_equal_long_ends(a: &[u8], b: &[u8]) -> bool
     requires same { length a.now ≡ length b.now }
