@@ -69,10 +69,10 @@ def get_requires_for_build_wheel(config_settings=None):
 
 
 def build_wheel(wheel_directory, config_settings=None, metadata_directory=None):
-    library = os.path.realpath(os.path.join(HERE, "..", "build", "library", "libstlslice.so"))
-    if not os.path.exists(library):
+    built = glob.glob(os.path.join(HERE, "..", "build", "library", "libstlslice.so.*.*"))
+    if not built:
         raise FileNotFoundError("there is no library: make library makes it")
-    return made(library.rpartition(".so.")[2], library, wheel_directory)
+    return made(built[0].rpartition(".so.")[2], built[0], wheel_directory)
 
 
 if __name__ == "__main__":

@@ -27,7 +27,7 @@ class Library(Case):
         proved = os.path.join(self.beside, "proved.a")
         told = self.room.out("library/build", "native", proved, self.room.file(name), version(), "/usr/local")
         same(told, "", "what library/build says")
-        return {it: self.room.get(name, it) for it in os.listdir(self.room.file(name))}
+        return {it.name: self.room.get(name, it.name) for it in os.scandir(self.room.file(name)) if not it.is_symlink()}
 
     def test_it_is_made_alike_in_any_folder(self):
         first = self.made("one")
