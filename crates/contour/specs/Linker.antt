@@ -6,18 +6,23 @@ use Rattle.std.specs.List.Sorted.{IsStrictlyIncreasing}
 use Rattle.geometry.specs.Facet.{Facet}
 use Rattle.mesh_weld.specs.EdgeNumbers.{AreEdgeNumbers}
 use Rattle.mesh_weld.specs.Solid.{triples}
-use Rattle.plane_segments.specs.Node.{Node, is_node}
+use Rattle.plane_segments.specs.Node.{Node}
 use Rattle.plane_segments.specs.declared.segment.Segment.{Segment}
-use Rattle.plane_segments.specs.Segment.{edge_node, no_segment}
+use Rattle.plane_segments.specs.Segment.{no_segment}
 use Rattle.contour.specs.declared.linker.TheConstants.{NONE}
 use Rattle.contour.specs.EdgeTable.{AreDistinct}
 use Rattle.contour.specs.Loops.{AreEnds, IsCycle, count_of, first_facet, follower, is_from_least, parts_from}
 
--- the number of the edge that is this node, for a facet by the numbers of its corners and of its edges
+-- the sum of a node's ends
+abbrev pub end_sum : Node → ℕ
+end_sum n = n.low + n.high
+
+-- The number of the edge that is this node, for a facet by the numbers of its corners and of its edges. No two of its edges
+-- have the same sum of their ends.
 abbrev pub edge_at_node : List ℕ → List ℕ → Node → ℕ
 edge_at_node corners edges node =
-    if is_node (edge_node corners 0) node then slice_index edges 0
-    else (if is_node (edge_node corners 1) node then slice_index edges 1 else slice_index edges 2)
+    if end_sum node == slice_index corners 0 + slice_index corners 1 then slice_index edges 0
+    else (if end_sum node == slice_index corners 1 + slice_index corners 2 then slice_index edges 1 else slice_index edges 2)
 
 abbrev pub edge_of_facet : List Facet → List (List ℕ) → ℕ → Node → ℕ
 edge_of_facet facets numbers facet node =

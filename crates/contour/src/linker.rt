@@ -12,7 +12,7 @@
 //! At first the edges of each plane get numbers of their own, from a table. Once a sixteenth as many segments were linked as the
 //! mesh has edges, `heads` has a place for each edge, by the mesh's own numbers. That takes one pass over all edges, and saves
 //! the table.
-ghost use Rattle.std.specs.Prelude.{[], ◌++◌, true, false, ◌≡◌, ◌<◌, ◌≤◌, ℕ, ℤ, All, List, IfOk, OnOk, length, slice_index_or};
+ghost use Rattle.std.specs.Prelude.{[], ◌+◌, ◌++◌, true, false, ◌≡◌, ◌<◌, ◌≤◌, ℕ, ℤ, All, List, IfOk, OnOk, length, slice_index_or};
 ghost use Rattle.exact_int.specs.Bounds.{IsAtMost};
 ghost use Rattle.mesh_weld.specs.Balance.{IsBalanced};
 ghost use Rattle.plane_segments.specs.Segment.{HasOrderedNodes, segments};
@@ -214,18 +214,29 @@ impl<A: Allocator> SegmentEdges<A> {
     }
 }
 
-/// The number of a facet's edge that is this node.
+/// The number of a facet's edge that is this node: no two edges of a facet have the same sum of their ends.
 fn edge_at(corners: &[u32; 3], numbers: &[u32; 3], node: Node) -> u32
     ensures { result ≡ edge_at_node corners.now numbers.now node }
 {
     let [first, second, third] = *numbers;
-    if node.is_between(corners[0], corners[1]) {
+    let sum = sum_of(node.low, node.high);
+    // both before the first test, so that the compiler needs no branch: which edge it is follows no pattern
+    let first_sum = sum_of(corners[0], corners[1]);
+    let second_sum = sum_of(corners[1], corners[2]);
+    if sum == first_sum {
         first
-    } else if node.is_between(corners[1], corners[2]) {
+    } else if sum == second_sum {
         second
     } else {
         third
     }
+}
+
+/// The sum of two numbers of vertices.
+fn sum_of(a: u32, b: u32) -> u64
+    ensures { result ≡ a + b }
+{
+    u64::from(a) + u64::from(b)
 }
 
 /// Pushes each slot at the front of the linked list of the edge where its segment starts. It goes from the last slot to the

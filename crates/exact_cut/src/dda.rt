@@ -181,6 +181,17 @@ fn if_negative(excess: i128, n: i128) -> i128
     n & (excess >> SIGN_BIT)
 }
 
+/// The DDA of the next row, if more rows are left than this one. After the last row it is as before, which saves a step.
+#[inline(always)]
+pub(crate) fn followed(d: &Dda, left: u32) -> Dda
+    requires dda { IsDda d.now }
+    requires whole_in { IsAtMost whole_limit d.now.whole }
+    ensures next { 1 < left → result ≡ next d.now }
+    ensures last { left ≤ 1 → result ≡ d.now }
+{
+    if left > 1 { stepped(d) } else { *d }
+}
+
 /// The DDA one step on.
 #[inline(always)]
 fn stepped(d: &Dda) -> Dda

@@ -1,6 +1,6 @@
 //! A node is an edge without direction: where a plane cuts the edge, two segments meet.
 ghost use Rattle.std.specs.Prelude.{◌≡◌, ◌≢◌, ◌<◌};
-ghost use Rattle.plane_segments.specs.Node.{between, is_node};
+ghost use Rattle.plane_segments.specs.Node.{between};
 
 use std::marker::Model;
 
@@ -35,12 +35,5 @@ impl Node {
             low: a.min(b),
             high: a.max(b),
         }
-    }
-
-    /// Whether this is the node of the edge between two vertices.
-    pub fn is_between(self, a: u32, b: u32) -> bool
-        ensures { result ≡ is_node (between a b) self }
-    {
-        a.min(b) == self.low && a.max(b) == self.high
     }
 }

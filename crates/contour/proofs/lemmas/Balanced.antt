@@ -21,10 +21,16 @@ use Rattle.plane_segments.proofs.lemmas.Cutting.{triples_at}
 use Rattle.plane_segments.proofs.lemmas.NodeOrder.{ends_in, same_number}
 use Rattle.plane_segments.proofs.lemmas.Nodes.{node-is, own_node}
 use Rattle.plane_segments.proofs.lemmas.FacetOrder.{AreFrom, segments_ascend}
-use Rattle.contour.specs.Linker.{edge_at_node, edge_of_facet, start_edge, finish_edge, AreSegmentEdges}
+use Rattle.contour.specs.Linker.{edge_at_node, edge_of_facet, end_sum, start_edge, finish_edge, AreSegmentEdges}
 use Rattle.contour.proofs.lemmas.Counts.{AreEven, count-append}
 use Rattle.contour.proofs.lemmas.Links.{edge_below}
 use Rattle.contour.proofs.lemmas.Counts.{times}
+
+turned : (m n : ℕ) → between m n ≡ between n m
+turned m n = let a : min m n ≡ min n m = grind arith in let b : max m n ≡ max n m = grind arith in λ i. record { low = a i; high = b i }
+
+end_sum-is : (m n : ℕ) → end_sum (between m n) ≡ m + n
+end_sum-is m n = grind arith
 
 module _ (facets : List Facet) where
   abbrev pub at : ℕ → ℕ → Edge
@@ -56,24 +62,36 @@ module _ (facets : List Facet) where
   same_nodes d e (inl h) = λ i. node_of (vertices facets) (edge (h.0 i) (h.1 i))
   same_nodes d e (inr h) =
       (λ i. node_of (vertices facets) (edge (h.0 i) (h.1 i))) ∙ turned (number_of (vertices facets) e.to) (number_of (vertices facets) e.from)
-    where
-      turned : (m n : ℕ) → between m n ≡ between n m
-      turned m n = let a : min m n ≡ min n m = grind arith in let b : max m n ≡ max n m = grind arith in λ i. record { low = a i; high = b i }
 
   module _ (numbers : List (List ℕ)) (count : ℕ) (numbered : AreEdgeNumbers facets numbers count) where
     pub own_edge : (n k : ℕ) → n < length facets → k < 3 → edge_of_facet facets numbers n (node_at n k) ≡ edge_number numbers n k
     own_edge n k l m =
         ap (λ ns. edge_at_node ns (get_or numbers n []) (node_at n k)) (triples_at facets n l)
-        ∙ by_tests k m (is_node (node_at n 0) (node_at n k)) (is_node (node_at n 1) (node_at n k)) refl refl
+        ∙ by_tests k m (eqb (end_sum (node_at n k)) (number 0 + number 1)) (eqb (end_sum (node_at n k)) (number 1 + number 2)) refl refl
       where
-        by_tests : (k : ℕ) → k < 3 → (b c : Bool) → is_node (node_at n 0) (node_at n k) ≡ b → is_node (node_at n 1) (node_at n k) ≡ c
+        number : ℕ → ℕ
+        number k = number_of (vertices facets) (at n k).from
+
+        same : (j k : ℕ) → j < 3 → k < 3 → node_at n j ≡ node_at n k → edge_number numbers n j ≡ edge_number numbers n k
+        same j k h m e = (numbered.shared n j n k l h l m).1 (same_ends n j n k l h l m (own_node (node_at n j) (node_at n k) e))
+
+        by_tests : (k : ℕ) → k < 3 → (b c : Bool) → eqb (end_sum (node_at n k)) (number 0 + number 1) ≡ b → eqb (end_sum (node_at n k)) (number 1 + number 2) ≡ c
             → cond b (get_or (get_or numbers n []) 0 0) (cond c (get_or (get_or numbers n []) 1 0) (get_or (get_or numbers n []) 2 0)) ≡ get_or (get_or numbers n []) k 0
-        by_tests k m true c p q = (numbered.shared n 0 n k l (omega arith) l m).1 (same_ends n 0 n k l (omega arith) l m p)
-        by_tests k m false true p q = (numbered.shared n 1 n k l (omega arith) l m).1 (same_ends n 1 n k l (omega arith) l m q)
-        by_tests zero m false false p q = absurd (true≢false (sym (own_node (node_at n 0) (node_at n 0) refl) ∙ p))
-        by_tests (suc zero) m false false p q = absurd (true≢false (sym (own_node (node_at n 1) (node_at n 1) refl) ∙ q))
+        by_tests zero m true c p q = refl
+        by_tests zero m false c p q = absurd (true≢false (sym (eq-eqb _ _ (end_sum-is (number 0) (number 1))) ∙ p))
+        by_tests (suc zero) m true c p q =
+            let e : number 2 ≡ number 0 = let sum = end_sum-is (number 1) (number 2) in let own = eqb-true _ _ p in omega (arith, sum, own) in
+            same 0 1 (omega arith) m (turned (number 0) (number 1) ∙ ap (between (number 1)) (sym e))
+        by_tests (suc zero) m false true p q = refl
+        by_tests (suc zero) m false false p q = absurd (true≢false (sym (eq-eqb _ _ (end_sum-is (number 1) (number 2))) ∙ q))
+        by_tests (suc (suc zero)) m true c p q =
+            let e : number 1 ≡ number 2 = let sum = end_sum-is (number 2) (number 0) in let own = eqb-true _ _ p in omega (arith, sum, own) in
+            same 0 2 (omega arith) m (turned (number 0) (number 1) ∙ ap (λ x. between x (number 0)) e)
+        by_tests (suc (suc zero)) m false true p q =
+            let e : number 1 ≡ number 0 = let sum = end_sum-is (number 2) (number 0) in let own = eqb-true _ _ q in omega (arith, sum, own) in
+            same 1 2 (omega arith) m (turned (number 1) (number 2) ∙ ap (between (number 2)) e)
         by_tests (suc (suc zero)) m false false p q = refl
-        by_tests (suc (suc (suc k))) m false false p q = absurd (omega (arith, m))
+        by_tests (suc (suc (suc k))) m b c p q = absurd (omega (arith, m))
 
 -- ---- a facet has one edge down and one up, or neither
 abbrev pub low_at : ℤ → Point → Bool

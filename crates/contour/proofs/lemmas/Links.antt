@@ -1,5 +1,5 @@
 -- The edges of the segments of a height: their numbers are below the count, and what the solid's arrays hold of them.
-use Rattle.std.proofs.Common.{◌≡◌, ℕ, ◌+◌, ◌*◌, ◌^◌, ◌<◌, ◌++◌, Bool, true, false, cond, List, [], ◌∷◌, sym, ◌∙◌, ap, subst, length, get_or, take, arith, map}
+use Rattle.std.proofs.Common.{◌≡◌, ℕ, ◌+◌, ◌*◌, ◌^◌, ◌<◌, ◌++◌, Bool, true, false, cond, eqb, List, [], ◌∷◌, sym, ◌∙◌, ap, subst, length, get_or, take, arith, map}
 use Rattle.std.specs.Prelude.{All}
 use Rattle.std.proofs.lemmas.List.{get_or-map, get_or_default, length-map, map_more}
 use mir.Syntax.{w64}
@@ -7,17 +7,20 @@ use mir.Val.{Fits}
 use Rattle.geometry.specs.Facet.{Facet, corners}
 use Rattle.mesh_weld.specs.Solid.{number_of, triples, vertices}
 use Rattle.mesh_weld.specs.EdgeNumbers.{AreEdgeNumbers}
-use Rattle.plane_segments.specs.Node.{Node, is_node}
+use Rattle.plane_segments.specs.Node.{Node}
 use Rattle.plane_segments.specs.declared.segment.Segment.{Segment}
-use Rattle.plane_segments.specs.Segment.{edge_node, no_segment}
-use Rattle.contour.specs.Linker.{AreSegmentEdges, edge_at_node, edge_of_facet, start_edge, finish_edge}
+use Rattle.plane_segments.specs.Segment.{no_segment}
+use Rattle.contour.specs.Linker.{AreSegmentEdges, edge_at_node, edge_of_facet, end_sum, start_edge, finish_edge}
 
 -- numbers of edges are below their count
 module _ (facets : List Facet) (numbers : List (List ℕ)) (count : ℕ) (numbered : AreEdgeNumbers facets numbers count) where
   pub edge_below : (facet : ℕ) (node : Node) → facet < length facets → edge_of_facet facets numbers facet node < count
   edge_below facet node h =
-      by_tests (is_node (edge_node (get_or (triples facets) facet []) 0) node) (is_node (edge_node (get_or (triples facets) facet []) 1) node)
+      by_tests (eqb (end_sum node) (get_or (corners_of facet) 0 0 + get_or (corners_of facet) 1 0)) (eqb (end_sum node) (get_or (corners_of facet) 1 0 + get_or (corners_of facet) 2 0))
     where
+      corners_of : ℕ → List ℕ
+      corners_of n = get_or (triples facets) n []
+
       by_tests : (b c : Bool) → cond b (get_or (get_or numbers facet []) 0 0) (cond c (get_or (get_or numbers facet []) 1 0) (get_or (get_or numbers facet []) 2 0)) < count
       by_tests true c = numbered.below facet 0 h (omega arith)
       by_tests false true = numbered.below facet 1 h (omega arith)

@@ -1,6 +1,7 @@
 -- What a DDA's steps keep: its position grows by the increment, and its whole units are the position over the unit, rounded up.
 use Rattle.std.proofs.Common.{◌≡◌, ◌⊎◌, inl, inr, ℕ, zero, suc, ◌+◌, ◌*◌, ◌-◌, ◌<◌, ◌≤◌, Bool, true, false, List, [], ◌∷◌, length, slice_index, ℤ, pos, ◌+ℤ◌, ◌-ℤ◌, ◌*ℤ◌, ◌≤ℤ◌, ◌<ℤ◌, unsigned_abs, int_lt, if◌then◌else◌, refl, sym, ◌∙◌, ap, subst, arith}
 use Rattle.std.proofs.Math.Nat.{mul-suc}
+use Rattle.std.proofs.lemmas.Bool.{cases_lt}
 use Rattle.std.proofs.lemmas.Int.{ints}
 use lib.IntN.{+ℤ_idr, -ℤ-+ℤ_cancel, *ℤ_comm}
 use Rattle.exact_int.specs.Bounds.{IsAtMost}
@@ -194,6 +195,14 @@ whole_next s h =
     other : {m : ℕ} (w p : ℤ) → unsigned_abs p ≤ m → unsigned_abs (w +ℤ p -ℤ pos 1) ≤ unsigned_abs w + (m + 1)
     other w p h = omega (arith, ints)
 
+fewer : (left v w s m : ℕ) → 0 < left → v ≤ w + s → w + s * left ≤ m → v + s * (left - 1) ≤ m
+fewer left v w s m a b c =
+    let e : left ≡ suc (left - 1) = omega arith in
+    one_less (left - 1) v w s m (s * left) (ap (λ n. s * n) e ∙ mul-suc s (left - 1)) b c
+  where
+    one_less : (n v w s m p : ℕ) → p ≡ s * n + s → v ≤ w + s → w + p ≤ m → v + s * n ≤ m
+    one_less n v w s m p e b c = omega arith
+
 pub IsOnRows-next : (row left : ℕ) (sign : ℤ) (s : Dda) → 0 < left → IsOnRows row left sign s → IsOnRows (row + 1) (left - 1) sign (next s)
 IsOnRows-next row left sign s some h = record {
   unit = h.unit;
@@ -201,14 +210,29 @@ IsOnRows-next row left sign s some h = record {
   rows_in = let k = h.rows_in in omega arith;
   whole_in = fewer left (unsigned_abs (next s).whole) (unsigned_abs s.whole) step_limit whole_limit some (whole_next s h.dda) h.whole_in;
 }
-  where
-    one_less : (n v w s m p : ℕ) → p ≡ s * n + s → v ≤ w + s → w + p ≤ m → v + s * n ≤ m
-    one_less n v w s m p e b c = omega arith
 
-    fewer : (left v w s m : ℕ) → 0 < left → v ≤ w + s → w + s * left ≤ m → v + s * (left - 1) ≤ m
-    fewer left v w s m a b c =
-        let e : left ≡ suc (left - 1) = omega arith in
-        one_less (left - 1) v w s m (s * left) (ap (λ n. s * n) e ∙ mul-suc s (left - 1)) b c
+-- ---- the DDA of the next row, which is as before after the last row
+module _ (left : ℕ) (s e : Dda) (is_next : 1 < left → e ≡ next s) where
+  pub IsOnRows-followed : (row : ℕ) (sign : ℤ) → 0 < left → (left ≤ 1 → e ≡ s) → IsOnRows row left sign s → IsOnRows (row + 1) (left - 1) sign e
+  IsOnRows-followed row sign some is_same h = by (cases_lt 1 left)
+    where
+      by : (1 < left) ⊎ (left ≤ 1) → IsOnRows (row + 1) (left - 1) sign e
+      by (inl m) = subst (IsOnRows (row + 1) (left - 1) sign) (sym (is_next m)) (IsOnRows-next row left sign s some h)
+      by (inr m) = subst (IsOnRows (row + 1) (left - 1) sign) (sym (is_same m)) (record {
+        unit = h.unit;
+        dda = h.dda;
+        rows_in = let k = h.rows_in in omega arith;
+        whole_in = fewer left (unsigned_abs s.whole) (unsigned_abs s.whole) step_limit whole_limit some (omega arith) h.whole_in;
+      })
+
+  pub columns_along-followed : (count : ℕ) → columns_along (left - 1) count (next s) ≡ columns_along (left - 1) count e
+  columns_along-followed count = by (cases_lt 1 left)
+    where
+      by : (1 < left) ⊎ (left ≤ 1) → columns_along (left - 1) count (next s) ≡ columns_along (left - 1) count e
+      by (inl m) = ap (columns_along (left - 1) count) (sym (is_next m))
+      by (inr m) =
+          let none : left - 1 ≡ 0 = omega arith in
+          ap (λ n. columns_along n count (next s)) none ∙ sym (ap (λ n. columns_along n count e) none)
 
 pub whole_left : (row left : ℕ) (sign : ℤ) (s : Dda) → IsOnRows row left sign s → IsAtMost whole_limit s.whole
 whole_left row left sign s h = record { at_most = at_most (unsigned_abs s.whole) (step_limit * left) whole_limit h.whole_in }

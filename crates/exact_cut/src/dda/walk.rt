@@ -10,7 +10,7 @@ ghost use Rattle.exact_cut.specs.Walk.{IsWalkOf, Walk};
 ghost use Rattle.geometry.specs.declared.limits.TheConstants.{CENTRE_LIMIT};
 
 use crate::dda::lattice::Lattice;
-use crate::dda::{Dda, dda_between, stepped};
+use crate::dda::{Dda, dda_between, followed};
 use crate::scanline::clamped;
 use crate::scanline::cut_point::CutPoint;
 use crate::scanline::section::Section;
@@ -128,7 +128,7 @@ impl Walk {
         ensures sign { self.new.sign ≡ self.old.sign }
     {
         let column = clamped(self.dda.whole, self.columns);
-        self.dda = stepped(&self.dda);
+        self.dda = followed(&self.dda, self.left);
         self.row += 1;
         self.left -= 1;
         column
