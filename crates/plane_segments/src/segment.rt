@@ -53,11 +53,11 @@ fn segment_in<A: Allocator>(
     // wakes the invariant: the corners of a kept facet are distinct
     let _count = s.count();
     let cut = cuts_at(heights, z2)?;
-    let corners = s.triples()[number as usize];
+    let corners = &s.triples()[number as usize];
     Some(Segment {
         facet: number,
-        from: edge_node(&corners, cut.down),
-        to: edge_node(&corners, cut.up),
+        from: edge_node(corners, cut.down),
+        to: edge_node(corners, cut.up),
     })
 }
 
@@ -68,11 +68,9 @@ fn edge_node(corners: &[u32; 3], edge: usize) -> Node
     ensures node { result ≡ edge_node corners.now edge }
     ensures ordered { result.low < result.high }
 {
-    match edge {
-        0 => Node::between(corners[0], corners[1]),
-        1 => Node::between(corners[1], corners[2]),
-        _ => Node::between(corners[2], corners[0]),
-    }
+    // no branch: which edge it is follows no pattern in a mesh
+    let end = if edge < 2 { edge + 1 } else { 0 };
+    Node::between(corners[edge], corners[end])
 }
 
 /// The segments at the height `z2` in half-micrometres, at most `geometry::CENTRE_LIMIT` from 0, in order of facets. It looks
