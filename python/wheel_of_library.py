@@ -69,7 +69,8 @@ def get_requires_for_build_wheel(config_settings=None):
 
 
 def build_wheel(wheel_directory, config_settings=None, metadata_directory=None):
-    built = glob.glob(os.path.join(HERE, "..", "build", "library", "libstlslice.so.*.*"))
+    folder = os.path.join(HERE, "..", "build", "library")
+    built = sorted(glob.glob(os.path.join(glob.escape(folder), "libstlslice.so.*.*")))
     if not built:
         raise FileNotFoundError("there is no library: make library makes it")
     return made(built[0].rpartition(".so.")[2], built[0], wheel_directory)

@@ -17,8 +17,8 @@ use Rattle.contour.specs.Loops.{AreEnds, IsCycle, count_of, first_facet, followe
 abbrev pub end_sum : Node → ℕ
 end_sum n = n.low + n.high
 
--- The number of the edge that is this node, for a facet by the numbers of its corners and of its edges. No two of its edges
--- have the same sum of their ends.
+-- The number of the edge that is this node, for a facet by the numbers of its corners and of its edges. Its corners are
+-- distinct, so no two of its edges have the same sum of their ends.
 abbrev pub edge_at_node : List ℕ → List ℕ → Node → ℕ
 edge_at_node corners edges node =
     if end_sum node == slice_index corners 0 + slice_index corners 1 then slice_index edges 0

@@ -214,13 +214,14 @@ impl<A: Allocator> SegmentEdges<A> {
     }
 }
 
-/// The number of a facet's edge that is this node: no two edges of a facet have the same sum of their ends.
+/// The number of a facet's edge that is this node. The facet's corners are distinct, so no two of its edges have the same sum
+/// of their ends.
 fn edge_at(corners: &[u32; 3], numbers: &[u32; 3], node: Node) -> u32
     ensures { result ≡ edge_at_node corners.now numbers.now node }
 {
     let [first, second, third] = *numbers;
     let sum = sum_of(node.low, node.high);
-    // both before the first test, so that the compiler needs no branch: which edge it is follows no pattern
+    // Both sums come before the first test, so that the compiler needs no branch. Which edge it is follows no pattern.
     let first_sum = sum_of(corners[0], corners[1]);
     let second_sum = sum_of(corners[1], corners[2]);
     if sum == first_sum {

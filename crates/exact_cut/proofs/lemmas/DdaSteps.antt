@@ -211,7 +211,7 @@ IsOnRows-next row left sign s some h = record {
   whole_in = fewer left (unsigned_abs (next s).whole) (unsigned_abs s.whole) step_limit whole_limit some (whole_next s h.dda) h.whole_in;
 }
 
--- ---- the DDA of the next row, which is as before after the last row
+-- ---- the DDA of the next row; after the last row it stays as it is
 module _ (left : ℕ) (s e : Dda) (is_next : 1 < left → e ≡ next s) where
   pub IsOnRows-followed : (row : ℕ) (sign : ℤ) → 0 < left → (left ≤ 1 → e ≡ s) → IsOnRows row left sign s → IsOnRows (row + 1) (left - 1) sign e
   IsOnRows-followed row sign some is_same h = by (cases_lt 1 left)
