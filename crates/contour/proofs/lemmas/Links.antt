@@ -16,10 +16,10 @@ use Rattle.contour.specs.Linker.{AreSegmentEdges, edge_at_node, edge_of_facet, e
 module _ (facets : List Facet) (numbers : List (List ℕ)) (count : ℕ) (numbered : AreEdgeNumbers facets numbers count) where
   pub edge_below : (facet : ℕ) (node : Node) → facet < length facets → edge_of_facet facets numbers facet node < count
   edge_below facet node h =
-      by_tests (eqb (end_sum node) (get_or (corners_of facet) 0 0 + get_or (corners_of facet) 1 0)) (eqb (end_sum node) (get_or (corners_of facet) 1 0 + get_or (corners_of facet) 2 0))
+      by_tests (eqb (end_sum node) (get_or own 0 0 + get_or own 1 0)) (eqb (end_sum node) (get_or own 1 0 + get_or own 2 0))
     where
-      corners_of : ℕ → List ℕ
-      corners_of n = get_or (triples facets) n []
+      own : List ℕ
+      own = get_or (triples facets) facet []
 
       by_tests : (b c : Bool) → cond b (get_or (get_or numbers facet []) 0 0) (cond c (get_or (get_or numbers facet []) 1 0) (get_or (get_or numbers facet []) 2 0)) < count
       by_tests true c = numbered.below facet 0 h (omega arith)
