@@ -154,8 +154,7 @@ fn are_equal(a: &[u8], b: &[u8]) -> bool
     }
 }
 
-/// Whether two texts of the same length, from 16 to 32 bytes, are equal. Each look is at 8 bytes: a comparison of 16 would be
-/// compiled to a call.
+/// Whether two texts of the same length, from 16 to 32 bytes, are equal.
 #[inline(always)]
 fn have_equal_long_ends(a: &[u8], b: &[u8]) -> bool
     requires same { length a.now ≡ length b.now }
@@ -185,10 +184,18 @@ fn have_equal_ends(a: &[u8], b: &[u8]) -> bool
         b.last_chunk::<8>(),
     ) {
         // both tests at once, without a branch between them
-        (Some(p), Some(q), Some(r), Some(s)) => (*p == *r) & (*q == *s),
+        (Some(p), Some(q), Some(r), Some(s)) => are_one_word(p, r) & are_one_word(q, s),
         // never reached: each has at least 8 bytes
         _ => false,
     }
+}
+
+/// Whether eight bytes are the same eight. They are compared as numbers: a comparison of arrays would be compiled to a call.
+#[inline(always)]
+fn are_one_word(a: &[u8; 8], b: &[u8; 8]) -> bool
+    ensures { IsTrue result ↔ (a.now ≡ b.now) }
+{
+    u64::from_le_bytes(*a) == u64::from_le_bytes(*b)
 }
 
 /// The text after its first word, if it has one. It is out of line: few words of a normal are longer than 16 bytes or have more
