@@ -184,15 +184,16 @@ fn have_equal_ends(a: &[u8], b: &[u8]) -> bool
         b.last_chunk::<8>(),
     ) {
         // both tests at once, without a branch between them
-        (Some(p), Some(q), Some(r), Some(s)) => are_one_word(p, r) & are_one_word(q, s),
+        (Some(p), Some(q), Some(r), Some(s)) => are_equal_as_numbers(p, r)
+            & are_equal_as_numbers(q, s),
         // never reached: each has at least 8 bytes
         _ => false,
     }
 }
 
-/// Whether eight bytes are the same eight. They are compared as numbers: a comparison of arrays would be compiled to a call.
+/// Whether two arrays are equal. They are compared as numbers, since a comparison of arrays is compiled to a call.
 #[inline(always)]
-fn are_one_word(a: &[u8; 8], b: &[u8; 8]) -> bool
+fn are_equal_as_numbers(a: &[u8; 8], b: &[u8; 8]) -> bool
     ensures { IsTrue result ↔ (a.now ≡ b.now) }
 {
     u64::from_le_bytes(*a) == u64::from_le_bytes(*b)

@@ -7,7 +7,7 @@ use Rattle.stl_text.proofs.layout.have_equal_ends.Goals as goal
 pub returns-in-Some-Some-Some-Some : goal.returns-in-Some-Some-Some-Some
 returns-in-Some-Some-Some-Some c =
     let w = c.in-Some-Some-Some-Some in
-    let first = c.are_one_word in let last = c.are_one_word-in-Some-Some-Some-Some in
+    let first = c.are_equal_as_numbers in let last = c.are_equal_as_numbers-in-Some-Some-Some-Some in
     let front_a = w.ensures.cases.same in let end_a = w.ensures'.cases.1.same in
     let front_b = w.ensures''.cases.same in let end_b = w.ensures'''.cases.1.same in (
       λ h. let both = and_parts first.result last.result h in
