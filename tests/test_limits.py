@@ -1,5 +1,5 @@
-"""The limits that documents, --help, the manual, the completions, the header, the commands, the pages and tests spell are
-the constants of the sources."""
+"""The limits that documents, --help, the manual, the completions, the header, front pages of crates, the commands, the pages and
+tests spell are the constants of the sources."""
 
 import glob
 import os
