@@ -92,7 +92,7 @@ build/web/preview.html: $(LIBRARY) $(LIBRARY_SOURCES) library/rattle_heap.ll doc
 	CC="$(CC)" library/build page $(LLVM_MODULE) build/web $(VERSION) $(PREFIX)
 
 # Without Chromium the test ends with status 77 and one line: it was skipped.
-test-web: build/web/preview.html $(PROGRAM)  ## tries that page in a headless Chromium, beside the program and the library
+test-web: build/web/preview.html $(PROGRAM)  ## tries that page in headless browsers, beside the program and the library
 	CC="$(CC)" library/web/test build/web/preview.html $(PROGRAM) build/library build/web/pictures || test $$? -eq 77
 
 install: install-program install-library  ## copies the program, its commands and files, and the library, below PREFIX

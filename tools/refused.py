@@ -1,6 +1,6 @@
 #!/usr/bin/env python3
 """Reads what `rt ci` or `rt must-fail` says of all edits. It fails if nothing is said of one, or if something else refuses one
-than a clause or an invariant, and refused_otherwise.txt, beside it, does not say why.
+than a clause or an invariant, and refused_otherwise.txt, beside it, does not say why; or if that file names what is no edit.
 
     rt must-fail | tools/refused.py [--list] [FILE..]     at the top; --list: of each edit the function that is not proved, its
                                                           name, the goal, and whether the name is another function's"""
@@ -9,7 +9,7 @@ import glob
 import re
 import sys
 
-TOLD = re.compile(r"rt: must-fail (\w+)/(\S+)\.edit: (refused)?[^:\n]*:? ?(.*)")
+TOLD = re.compile(r"rt: must-fail ((\w+)/(\S+))\.edit: (refused)?[^:\n]*:? ?(.*)")
 ANSWER = re.compile(r"\./proofs/(\S+)/Answers\.antt:\d+:\d+: error: `([^`]+)`")
 CODE = re.compile(r"note: (src/\S+):(\d+):\d+: (?:it is not proved that|`search` found no proof) (.*)")
 # `rt` cuts what it quotes: where the goal's name is gone, the sentence says what it is
@@ -24,15 +24,15 @@ def function_at(file, row):
     return next(it[1] for line in lines[row - 1 :: -1] for it in re.finditer(r"\bfn (\w+)", line))
 
 
-otherwise = open(f"{sys.path[0]}/refused_otherwise.txt", encoding="utf-8").read()
+otherwise = {*re.findall(r"(?m)^(\w+/\S+):", open(f"{sys.path[0]}/refused_otherwise.txt", encoding="utf-8").read())}
 told = TOLD.findall("".join(fileinput.input([it for it in sys.argv[1:] if it != "--list"])))
 names = {it.replace("/must-fail", "")[7:-5] for it in glob.glob("crates/*/must-fail/*.edit")}
-failed = [f"{it}: nothing is said of it" for it in sorted(names.difference(f"{crate}/{edit}" for crate, edit, *_ in told))]
-for crate, edit, is_refused, said in told:
+failed = [f"{it}: nothing is said of it" for it in sorted(names.difference(it[0] for it in told))]
+failed += [f"{it}: refused_otherwise.txt names it, and it is no edit" for it in sorted(otherwise - names)]
+for name, crate, edit, is_refused, said in told:
     answer, code = ANSWER.match(said), CODE.match(said)
     goal = answer[2] if answer else [*re.findall(r"\(`([^`]+)", code[3]), code[3]][0] if code else said
-    if not is_refused or (f"\n{crate}/{edit}: " in otherwise) == bool((answer or code) and CLAUSE.match(goal)):
-        failed.append(f"{crate}/{edit}: {said}")
+    failed += [f"{name}: {said}"] * (not is_refused or (name in otherwise) == bool((answer or code) and CLAUSE.match(goal)))
     if "--list" in sys.argv:
         place = answer[1].replace("/", "::") if answer else function_at(f"crates/{crate}/{code[1]}", int(code[2])) if code else "?"
         print(f"{crate}::{place}  {edit}  {goal}" + "  (of another function)" * (edit.split(".")[-2] != place.split("::")[-1]))
