@@ -26,6 +26,7 @@ import time
 import pngs
 from measure import exit_status
 
+ROOT = os.path.dirname(os.path.dirname(os.path.abspath(__file__)))
 WORKERS = (1, 4)
 
 PNGS = ("Each cell has the least time and, in brackets, its ratio to that of raw PBM. One worker slices `examples/supported.stl`. "
@@ -192,6 +193,15 @@ def machine():
     return f"{names[0] if names else 'unknown processor'}, {os.cpu_count()} processors, {memory:.0f} GiB"
 
 
+def commit():
+    """The commit that this script's repository is at, with a plus sign if a file but the page itself differs from it."""
+    def told(*words):
+        return subprocess.run(["git", "-C", ROOT, *words], stdout=subprocess.PIPE, text=True).stdout.strip()
+
+    changes = told("status", "--porcelain", "--", ".", ":!docs/benchmarks.md")
+    return (told("rev-parse", "--short", "HEAD") or "unknown") + "+" * bool(changes)
+
+
 def cells(about):
     """What the page says of its cells. `about` is what is said of another slicer, or None."""
     if about is None:
@@ -209,7 +219,7 @@ def head(program, about, runs):
 
 Memory below {resource.getrusage(resource.RUSAGE_SELF).ru_maxrss / 1024:.0f} MiB is that of the script. The command `make bench` times the program on your machine.
 
-- Program: {version}
+- Program: {version}, commit {commit()}
 - Machine: {machine()}
 - Date: {datetime.date.today()}
 

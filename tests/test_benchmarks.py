@@ -1,4 +1,4 @@
-"""bench/table.py writes a page with machine, date and a row for each case; beside another slicer it shows ratios too, and
+"""bench/table.py writes a page with commit, machine, date and a row for each case; beside another slicer it shows ratios too, and
 ends with a fault if that one writes other bytes. The rows of docs/benchmarks.md are the script's. bench/large.py has a figure
 of each part in each row."""
 
@@ -34,7 +34,7 @@ class Benchmarks(Case):
         ran = self.room.done(TABLE, PROGRAM, *FEW)
         days.append(datetime.date.today())
         assert any(f"\n- Date: {it}\n" in ran.out for it in days), f"no date: {ran.out}"
-        assert re.search(r"\n- Machine: .+, \d+ processors, \d+ GiB\n", ran.out), f"no machine: {ran.out}"
+        assert re.search(r", commit \w+\+?\n- Machine: .+, \d+ processors, \d+ GiB\n", ran.out), f"no commit or machine: {ran.out}"
         (name, *cells), = rows(ran.out)
         same(name, dict(NAMED)["sphere20k"], "its row")
         assert all(re.fullmatch(r"\d+\.\d{3} s, \d+ MiB", it) for it in cells), cells
