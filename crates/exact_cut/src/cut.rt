@@ -88,11 +88,7 @@ pub(crate) fn start_of(f: &Facet, edge: usize) -> HalfPoint
     requires { edge < 3 }
     ensures { point_of result ≡ start (twice f.now) edge }
 {
-    match edge {
-        0 => corner_at(f, 0),
-        1 => corner_at(f, 1),
-        _ => corner_at(f, 2),
-    }
+    corner_at(f, edge)
 }
 
 /// The corner that an edge ends at.
@@ -101,9 +97,6 @@ pub(crate) fn finish_of(f: &Facet, edge: usize) -> HalfPoint
     requires { edge < 3 }
     ensures { point_of result ≡ finish (twice f.now) edge }
 {
-    match edge {
-        0 => corner_at(f, 1),
-        1 => corner_at(f, 2),
-        _ => corner_at(f, 0),
-    }
+    // This takes no branch, since which edge it is follows no pattern in a mesh.
+    corner_at(f, if edge < 2 { edge + 1 } else { 0 })
 }
