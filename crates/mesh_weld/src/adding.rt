@@ -145,10 +145,7 @@ fn number_and_name<
         ensures kept { kept.exit.now.ids ≡ kept.entry.now.ids }
         ensures ranges { OnOk result.0 (kept.exit.now.ranges.items ≡ kept.entry.now.ranges.items ++ height_ranges (kept_facets facets.entry.now)) }
         ensures then { F.post then.entry.now result.1 }
-    {
-        let numbered = kept.number_with(count, facets);
-        (numbered, then())
-    };
+    { (kept.number_with(count, facets), then()) };
     let mut rest = || -> ((Result<(), AllocError>, S), T)
         requires room { length names.now.points.items + 3 * length facets.now ≤ CORNER_LIMIT }
         requires calls { F.pre then.now × G.pre own.now }

@@ -196,8 +196,7 @@ pub unsafe extern "C" fn stlslice_open_mesh(
     requires* shape { sem 𝓛 (lent shape_row shape 1 given.7) }
     requires* line { sem 𝓛 (lent u8 line line_room given.8) }
     ensures* { ∃ₛ (λ (left : List HandleValue × List ShapeValue × List ℕ).
-        sem 𝓛 (lent_shared (Array i32 3) given.0 points point_count given.1)
-        ∗ sem 𝓛 (lent_shared (Array u32 3) given.2 triangles triangle_count given.3)
+        sem 𝓛 (lent_shared (Array i32 3) given.0 points point_count given.1) ∗ sem 𝓛 (lent_shared (Array u32 3) given.2 triangles triangle_count given.3)
         ∗ sem 𝓛 (lent_shared options_row given.4 options 1 given.5) ∗ sem 𝓛 (lent handle_row mesh 1 left.0)
         ∗ sem 𝓛 (lent shape_row shape 1 left.1) ∗ sem 𝓛 (lent u8 line line_room left.2)
         ∗ ⌜ IsOpenMeshCall given.1 point_count given.3 triangle_count given.5 given.6 left.0 given.7 left.1 given.8 left.2 line_room result ⌝) }
