@@ -4,7 +4,7 @@ use Rattle.std.specs.Prelude.{◌≡◌, ◌≢◌, ℕ, zero, suc, ◌*◌, ◌
 use Rattle.contour.specs.declared.edge_table.TheConstants.{HASHES, MULTIPLIER}
 use Rattle.geometry.specs.declared.limits.TheConstants.{FACET_LIMIT}
 
--- the bucket of an edge, of so many buckets: in proportion to its hash
+-- which of `buckets` buckets an edge is in: in proportion to its hash
 abbrev pub bucket : ℕ → ℕ → ℕ
 bucket buckets edge = edge * MULTIPLIER % HASHES * buckets / HASHES
 

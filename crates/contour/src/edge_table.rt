@@ -39,7 +39,7 @@ impl<A: Allocator> EdgeTable<A> {
         }
     }
 
-    /// Removes all edges, and makes so many buckets.
+    /// Removes all edges, and makes `buckets` buckets.
     pub(crate) fn clear(&mut self, buckets: usize) -> Result<(), AllocError>
         requires some { 0 < buckets }
         requires few { buckets ≤ 4 * FACET_LIMIT }
@@ -115,7 +115,7 @@ impl<A: Allocator> EdgeTable<A> {
     }
 }
 
-/// The bucket of an edge, of so many buckets.
+/// Which of `buckets` buckets an edge is in.
 fn bucket_of(edge: u32, buckets: usize) -> usize
     requires some { 0 < buckets }
     requires few { buckets ≤ 4 * FACET_LIMIT }

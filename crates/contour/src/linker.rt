@@ -135,12 +135,12 @@ impl<A: Allocator> Links<A> {
         let count = slot_count(s, list) as usize;
         self.linked = self.linked.saturating_add(count);
         self.edges.fill(s, list)?;
-        let edges = self
+        let edge_count = self
             .edges
             .number(&mut self.table, self.linked, s.edge_count())?;
         self.after.resize(count, NONE)?;
         self.next.resize(count, NONE)?;
-        self.heads.resize(edges.max(self.heads.len()), NONE)?;
+        self.heads.resize(edge_count.max(self.heads.len()), NONE)?;
         let heads = self.heads.as_mut_slice();
         let after = self.after.as_mut_slice();
         push_starts(heads, &self.edges, after);

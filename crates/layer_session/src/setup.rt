@@ -44,7 +44,7 @@ impl Setup {
     }
 }
 
-/// Whether so many micrometres are a layer height or a pitch.
+/// Whether this number of micrometres is a layer height or a pitch.
 pub(crate) fn is_step(micrometres: u32) -> bool
     ensures { IsTrue result ↔ IsStep micrometres }
 {

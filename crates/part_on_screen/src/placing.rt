@@ -129,7 +129,7 @@ fn turned(turn: Quarters, x: i32, y: i32) -> (i32, i32)
     }
 }
 
-/// The number of which a coordinate is so many times.
+/// A coordinate divided by `times`, of which it is a multiple.
 fn quotient(coordinate: i32, times: u64) -> i32
     requires range { IsAtMost COORDINATE_LIMIT coordinate }
     requires some { 1 ≤ times }

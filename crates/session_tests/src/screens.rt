@@ -5,7 +5,7 @@ use layer_session::{
 };
 use std::alloc::Global;
 
-/// A side of so many micrometres.
+/// A side of `numerator` micrometres.
 const fn micrometres(numerator: u32) -> PixelSide {
     PixelSide {
         numerator,

@@ -33,7 +33,7 @@ const NOT_NUMBER: u32 = 0xffc0_0000;
 /// 1e38.
 const HUGE: u32 = 0x7e96_7699;
 
-/// The bits of so many micrometres in millimetres: of a NaN if the table has none.
+/// The bits of this number of micrometres, in millimetres: of a NaN if the table has none.
 fn bits_of(micrometres: i32) -> u32 {
     match THOUSANDTHS.get(micrometres.unsigned_abs() as usize) {
         Some(bits) if micrometres < 0 => *bits | 1 << 31,
@@ -219,7 +219,7 @@ fn a_count_that_lies(rt: HostRuntime) {
     }
 }
 
-/// How many facets a file has, if it may have so many.
+/// How many facets a file has, if there are at most `limit`.
 fn count_at_most(alloc: Global, bytes: &[u8], limit: u32) -> Result<usize, SessionFault> {
     Ok(read_file_at_most(alloc, bytes, limit, Unit::Millimetre)?.len())
 }

@@ -118,7 +118,7 @@ pub record IsBoxed (unit : ℕ) (bytes : List ℕ) (told : Corners) : Type 0 whe
   pub reads : ReadsFile FACET_LIMIT meant bytes facets
   pub box : told ≡ corners_told (length facets) (extent facets)
 
--- a number that is no unit's, or the fault of the file, of which so many facets are read, with its line
+-- a number that is no unit's, or the fault of the file, of which at most `limit` facets are read, with its line
 abbrev pub IsUnread : ℕ → ℕ → List ℕ → List ℕ → List ℕ → ℕ → Type 0
 IsUnread limit unit bytes before after status =
     ((unit_numbered unit ≡ None) × (status ≡ OUT_OF_RANGE) × IsLine (status_text OUT_OF_RANGE) before after)

@@ -32,6 +32,10 @@ turned m n = let a : min m n ≡ min n m = grind arith in let b : max m n ≡ ma
 end_sum-is : (m n : ℕ) → end_sum (between m n) ≡ m + n
 end_sum-is m n = grind arith
 
+-- two nodes with an end in common are equal if the sums of their ends are
+same_node : (a b c d : ℕ) → end_sum (between c d) ≡ a + b → (b ≡ c) ⊎ (a ≡ d) → between a b ≡ between c d
+same_node a b c d h w = let sum = end_sum-is c d in let e : (b ≡ c) × (a ≡ d) = omega (arith, sum, h, w) in rw (e.0, e.1) (turned d c)
+
 module _ (facets : List Facet) where
   abbrev pub at : ℕ → ℕ → Edge
   at n k = edge_of facets n k
@@ -79,17 +83,11 @@ module _ (facets : List Facet) where
             → cond b (get_or (get_or numbers n []) 0 0) (cond c (get_or (get_or numbers n []) 1 0) (get_or (get_or numbers n []) 2 0)) ≡ get_or (get_or numbers n []) k 0
         by_tests zero m true c p q = refl
         by_tests zero m false c p q = absurd (true≢false (sym (eq-eqb _ _ (end_sum-is (number 0) (number 1))) ∙ p))
-        by_tests (suc zero) m true c p q =
-            let e : number 2 ≡ number 0 = let sum = end_sum-is (number 1) (number 2) in let own = eqb-true _ _ p in omega (arith, sum, own) in
-            same 0 1 (omega arith) m (turned (number 0) (number 1) ∙ ap (between (number 1)) (sym e))
+        by_tests (suc zero) m true c p q = same 0 1 (omega arith) m (same_node (number 0) (number 1) (number 1) (number 2) (eqb-true _ _ p) (inl refl))
         by_tests (suc zero) m false true p q = refl
         by_tests (suc zero) m false false p q = absurd (true≢false (sym (eq-eqb _ _ (end_sum-is (number 1) (number 2))) ∙ q))
-        by_tests (suc (suc zero)) m true c p q =
-            let e : number 1 ≡ number 2 = let sum = end_sum-is (number 2) (number 0) in let own = eqb-true _ _ p in omega (arith, sum, own) in
-            same 0 2 (omega arith) m (turned (number 0) (number 1) ∙ ap (λ x. between x (number 0)) e)
-        by_tests (suc (suc zero)) m false true p q =
-            let e : number 1 ≡ number 0 = let sum = end_sum-is (number 2) (number 0) in let own = eqb-true _ _ q in omega (arith, sum, own) in
-            same 1 2 (omega arith) m (turned (number 1) (number 2) ∙ ap (between (number 2)) e)
+        by_tests (suc (suc zero)) m true c p q = same 0 2 (omega arith) m (same_node (number 0) (number 1) (number 2) (number 0) (eqb-true _ _ p) (inr refl))
+        by_tests (suc (suc zero)) m false true p q = same 1 2 (omega arith) m (same_node (number 1) (number 2) (number 2) (number 0) (eqb-true _ _ q) (inl refl))
         by_tests (suc (suc zero)) m false false p q = refl
         by_tests (suc (suc (suc k))) m b c p q = absurd (omega (arith, m))
 

@@ -24,13 +24,13 @@ number-requires-clause-finishes_below g c =
 
 pub push_starts-requires-clause-edges : goal.push_starts-requires-clause-edges
 push_starts-requires-clause-edges g c =
-    let found = c.in_ok-edges.ensures in
+    let found = c.in_ok-edge_count.ensures in
     numbers-below found.0 c.fill.new.self.starts.items c.number.new.self.starts.items (length c.as_mut_slice-heads.result.now) found.2.starts_are
     (omega (arith, c.as_mut_slice-heads.ensures.len, c.in_ok-resize-3.ensures.len, found.1))
 
 pub pop_starts-requires-clause-edges : goal.pop_starts-requires-clause-edges
 pop_starts-requires-clause-edges g c =
-    let found = c.in_ok-edges.ensures in
+    let found = c.in_ok-edge_count.ensures in
     numbers-below found.0 c.fill.new.self.finishes.items c.number.new.self.finishes.items (length c.push_starts.new.heads) found.2.finishes_are
     (omega (arith, c.push_starts.auto.heads, c.as_mut_slice-heads.ensures.len, c.in_ok-resize-3.ensures.len, found.1))
 
@@ -40,12 +40,12 @@ returns-clause-links g c =
     let new_starts = c.number.new.self.starts.items in let new_finishes = c.number.new.self.finishes.items in
     let next : List ℕ = c.pop_starts.new.next in
     let sizes = segment_edges-length c.args.s.now.facets c.args.list.now _ _ c.in_ok-fill.ensures in
-    let numbers = c.in_ok-edges.ensures.2 in
+    let numbers = c.in_ok-edge_count.ensures.2 in
     let room : length next ≡ c.resize-2.new.self.len = omega (arith, c.pop_starts.auto.next, c.as_mut_slice.ensures.len) in
     let size : length next ≡ length c.args.list.now = omega (arith, room, c.in_ok-resize-2.ensures.len, c.slot_count-count.ensures.count) in
     subst (AreLinks c.args.list.now) (sym (cut c.resize-2.new.self.len next c.resize-2.new.self.items room))
     (segment_edges-links c.args.s.now.facets c.args.list.now starts finishes next c.requires.list c.in_ok-fill.ensures c.slot_count-count.ensures.closed size
-    (renumbered-popped starts finishes c.in_ok-edges.ensures.0 new_starts new_finishes next (length c.args.list.now) numbers (omega (arith, sizes.1))
+    (renumbered-popped starts finishes c.in_ok-edge_count.ensures.0 new_starts new_finishes next (length c.args.list.now) numbers (omega (arith, sizes.1))
     (subst (ArePopped next new_starts new_finishes) (numbers.finishes_are.size ∙ sizes.1) c.pop_starts.ensures.popped)))
 
 pub returns-clause-clear : goal.returns-clause-clear
@@ -56,6 +56,6 @@ returns-clause-clear g c =
     let room : length heads ≡ c.resize-3.new.self.len = omega (arith, c.pop_starts.auto.heads, c.push_starts.auto.heads, c.as_mut_slice-heads.ensures.len) in
     subst IsClear (sym (cut c.resize-3.new.self.len heads c.resize-3.new.self.items room))
     (left-clear heads new_starts new_finishes
-    (renumbered-even starts finishes c.in_ok-edges.ensures.0 new_starts new_finishes c.in_ok-edges.ensures.2
+    (renumbered-even starts finishes c.in_ok-edge_count.ensures.0 new_starts new_finishes c.in_ok-edge_count.ensures.2
     (segment_edges-even c.args.s.now.facets c.args.list.now starts finishes c.requires.list c.in_ok-fill.ensures c.slot_count-count.ensures.closed))
     c.pop_starts.ensures.left)
