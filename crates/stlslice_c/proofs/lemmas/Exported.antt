@@ -1,21 +1,21 @@
 -- How the walk of an export begins and ends. Assumes `Logic`.
-use Rattle.std.proofs.Common.{◌≡◌, ℕ, suc, List, [], ◌∷◌, refl, sym, subst, ap}
+use Rattle.std.proofs.Common.{◌≡◌, ℕ, List, [], ◌∷◌, refl, sym, subst, ap}
 use Rattle.std.specs.Prelude.{Bool, true, false}
 use lib.Dec.{T}
 use seplogic.Ra.Ura.{Ura}
-use base.Logic.{SProp, ent, sep, emp, via, id⊢, emp∗, comm∗, mono_r, mono_l}
+use base.Logic.{SProp, ent, sep, emp, via, id⊢, emp∗}
 use base.Fml.{Fml, ftrue, fsep}
-use mir.Syntax.{Ty, Fn, Callee, Local, ty_ptr, ty_int}
+use mir.Syntax.{Ty, Fn, Callee, ty_ptr, ty_int}
 use mir.Val.{Val, vint, has_ty, WT}
 use prog.Model.{Model}
 use prog.Wp.{WpFn, Closed, Calls, Loops}
 use types.Logic.{Logic, sem}
 use types.ByLocal.{AllTyped, env}
 use types.Run.{enter}
-use types.Kit.{Item, Step, step, Sq, prop, ‵, raw, ◌⊛◌, ◌$◌, ◌∵◌, !, qed, by, move, use0, use1, use2, split, drop, join, suffices, Seq, Goal, fsplit, fjoin, allocs, params', runs, at_ret}
+use types.Kit.{Item, Step, step, Sq, prop, ‵, raw, ◌⊛◌, ◌$◌, ◌∵◌, !, qed, by, move, use0, use1, use2, split, drop, suffices, Seq, Goal, fsplit, fjoin, allocs, params', runs, at_ret}
 use contract.Lifetimes.{Lfts}
 use contract.Monad.{fact, fact_i}
-use contract.Running.{Running, MachineTables, tables}
+use contract.Running.{Running, tables}
 use denote.Builtin.{RawPtr}
 use denote.Exit.{Exit, unchanged, leaves, Last, left, rest}
 use denote.Laws.{Are, Ises}
@@ -37,6 +37,7 @@ use Rattle.stlslice_c.proofs.lemmas.Passing.{Passed, handle, number, to_read, sh
 use Rattle.stlslice_c.proofs.lemmas.Values.{Z, zal}
 
 -- ---- nothing is had of an export's parameters when it returns, and nothing is said of them
+-- nothing is bound of such a parameter
 abbrev mute : {D : Type 0} → Exit D → Bool
 mute unchanged = true
 mute (leaves L l S s r) = false
@@ -62,21 +63,26 @@ module _ {n : ℕ} where
   mutes κs [] ks = true
   mutes κs (s ∷ ss) ks = both (mute ((s.row κs).exit ks.0)) (mutes κs ss ks.1)
 
+  -- what is bound of them
   abbrev pub rests : (κs : Lfts n) (ss : List (Slot n)) (ks : Kepts ss) (a : Denots (types_at ss κs)) → Fins κs ss ks a
   rests κs [] ks a = tt
   rests κs (s ∷ ss) ks a = (rest ((s.row κs).exit ks.0) a.0, rests κs ss ks.1 a.1)
 
+  -- that it fits
   fit_all : (κs : Lfts n) (ss : List (Slot n)) (ks : Kepts ss) (a : Denots (types_at ss κs)) → fits_of κs ss ks (dropped ss ks) a (rests κs ss ks a)
   fit_all κs [] ks a = tt
   fit_all κs (s ∷ ss) ks a = (tt, fit_all κs ss ks.1 a.1)
 
   module _ {M : Type 1} {𝓤 : Ura M} (𝓛 : Logic 𝓤) where
+    -- each meets the law of its slot
     go_dropped : (ss : List (Slot n)) (ks : Kepts ss) → ((κs : Lfts n) → T (mutes κs ss ks)) → AllGo 𝓛 n ss ks (dropped ss ks)
     go_dropped [] ks h = tt
-    go_dropped (s ∷ ss) ks h =
-        (Goes-Silent 𝓛 n s ks.0 (stay_dropped s ks.0) (λ κs x f. mute_left ((s.row κs).exit ks.0) (both_yes (mute ((s.row κs).exit ks.0)) (mutes κs ss ks.1) (h κs)).0 x f),
-        go_dropped ss ks.1 (λ κs. (both_yes (mute ((s.row κs).exit ks.0)) (mutes κs ss ks.1) (h κs)).1))
+    go_dropped (s ∷ ss) ks h = (
+      Goes-Silent 𝓛 n s ks.0 (stay_dropped s ks.0) (λ κs x f. mute_left ((s.row κs).exit ks.0) (both_yes (mute ((s.row κs).exit ks.0)) (mutes κs ss ks.1) (h κs)).0 x f),
+      go_dropped ss ks.1 (λ κs. (both_yes (mute ((s.row κs).exit ks.0)) (mutes κs ss ks.1) (h κs)).1),
+    )
 
+    -- what is had of them is nothing
     had_none : (κs : Lfts n) (ss : List (Slot n)) (ks : Kepts ss) (a : Denots (types_at ss κs)) (vss : Valss (types_at ss κs)) → ent 𝓤 (emp 𝓤) (sem 𝓛 (has_of κs ss ks (dropped ss ks) a (rests κs ss ks a) vss))
     had_none κs [] ks a vss = id⊢ 𝓤 (emp 𝓤)
     had_none κs (s ∷ ss) ks a vss = let P : SProp 𝓤 = sem 𝓛 (has_of κs ss ks.1 (dropped ss ks.1) a.1 (rests κs ss ks.1 a.1) vss.1) in via 𝓤 P (had_none κs ss ks.1 a.1 vss.1) (emp∗ 𝓤 P)
@@ -134,6 +140,7 @@ module _ {M : Type 1} {𝓤 : Ura M} {𝓛 : Logic 𝓤} where
   words (shared R copied q p n xs ∷ ps) = ptr_val p ∷ words ps
   words (filled R p n xs ∷ ps) = ptr_val p ∷ words ps
 
+  -- the types of the parameters' locals
   abbrev local_types : List (Passed 𝓛) → List Ty
   local_types [] = []
   local_types (handle a h fits ∷ ps) = layout Z ∷ local_types ps
@@ -142,6 +149,7 @@ module _ {M : Type 1} {𝓤 : Ura M} {𝓛 : Logic 𝓤} where
   local_types (shared R copied q p n xs ∷ ps) = ty_ptr ∷ local_types ps
   local_types (filled R p n xs ∷ ps) = ty_ptr ∷ local_types ps
 
+  -- and the types of the first locals
   abbrev firsts : List (Passed 𝓛) → List (Ty × ℕ) → List Ty
   firsts [] E = []
   firsts (p ∷ ps) [] = []
@@ -161,6 +169,7 @@ module _ {M : Type 1} {𝓤 : Ura M} {𝓛 : Logic 𝓤} where
   typed (shared R copied q p n xs ∷ ps) (l ∷ E) e = (subst (λ (τ : Ty). T (has_ty τ (ptr_val p)) × WT (ptr_val p)) (sym (ap first e)) (ptr_good p), typed ps E (ap others e))
   typed (filled R p n xs ∷ ps) (l ∷ E) e = (subst (λ (τ : Ty). T (has_ty τ (ptr_val p)) × WT (ptr_val p)) (sym (ap first e)) (ptr_good p), typed ps E (ap others e))
 
+  -- the types of the parameters, and their values
   abbrev params : List (Passed 𝓛) → List RattleType
   params [] = []
   params (handle a h fits ∷ ps) = Z ∷ params ps
@@ -214,6 +223,7 @@ module _ {M : Type 1} {𝓤 : Ura M} {𝓛 : Logic 𝓤} {K : Type 0} {Γ : List
       → ((v : Val) → vs ≡ v ∷ [] → (fits : T (has_ty (layout Z) v) × WT v) → φ → Counts ps → Seq K 𝓛 (‵ (loose (arrays (handle a v fits ∷ ps))) ∷ Γ) G) → Seq K 𝓛 (‵ (fsep (Z.own_val a vs) P) ∷ raw R ∷ Γ) G
   begins_with t a vs ps φ h k = fsplit t $ move t (1 ∷ 2 ∷ []) $ begins t ps φ h (λ tests counts. move t (1 ∷ []) $ handle_tells zal t a vs (λ v is fits. fjoin t $ k v is fits tests counts))
 
+-- a list without its first entry
 abbrev pub tail : {X : Type 0} → List X → List X
 tail [] = []
 tail (x ∷ xs) = xs

@@ -1,6 +1,5 @@
 -- What an export passes on to the call within it: its numbers, and as slices the arrays that C lends. Assumes `Logic`.
-use Rattle.std.proofs.Common.{◌≡◌, ℕ, suc, ◌<◌, ◌^◌, List, [], ◌∷◌, length, refl, sym, ap, subst, w32, zero, Bor, MutBor}
-use Rattle.std.specs.Prelude.{Bool, true, false}
+use Rattle.std.proofs.Common.{◌≡◌, ℕ, suc, ◌<◌, ◌^◌, List, [], ◌∷◌, length, refl, sym, ap, subst, w32, zero}
 use lib.Dec.{T}
 use seplogic.Ra.Ura.{Ura}
 use base.Fraction.{full_share}
@@ -11,7 +10,7 @@ use mir.Val.{Val, vint, bits, has_ty, WT}
 use prog.Wp.{Env, Calls, Loops, spot_of}
 use sound.WpLaws.{FmC}
 use types.Logic.{Logic, sem}
-use types.Kit.{Item, Goal, Soaks, Seq, Step, step, Post, at_ret, prop, frees, runs, lands, mean, nth, del, ‵, raw, ◌⊛◌, some, later, ◌$◌, move, drop, use0, use1, use2, split, join, pick, fsplit, fjoin, feq_l, feq_i, await}
+use types.Kit.{Item, Goal, Soaks, Seq, Step, step, Post, at_ret, prop, frees, runs, lands, mean, nth, del, ‵, raw, ◌⊛◌, some, later, ◌$◌, move, drop, use1, split, join, pick, fsplit, fjoin, feq_l, feq_i, await}
 use types.Run.{Opds, no_more, and_then, from, stop, init, land, returns}
 use types.ByLocal.{at, cell, get, look_at, set}
 use types.Share.{parts}
@@ -25,7 +24,7 @@ use denote.Lend.{Held}
 use denote.Memory.{mem, shares}
 use denote.Param.{layout}
 use denote.Plain.{UInt, uint_Makes, uint_Lawful}
-use denote.RawPtr.{Ptr, ptr_val}
+use denote.RawPtr.{Ptr}
 use denote.Slice.{MutSlice, ShrSlice, slice_val}
 use denote.Steps.{heard, nothing, owned, peeks}
 use denote.Triple.Call.{calls_at}
@@ -38,11 +37,11 @@ use Rattle.stlslice_c.proofs.lemmas.Lending.{IsPlaced, lends, comes, shares_out,
 
 -- a parameter of an export
 pub data Passed {M : Type 1} {𝓤 : Ura M} (𝓛 : Logic 𝓤) : Type 2 where
-  handle : Z.Denot → (h : Val) → T (has_ty (layout Z) h) × WT h → Passed 𝓛               -- the allocator
+  handle : Z.Denot → (h : Val) → T (has_ty (layout Z) h) × WT h → Passed 𝓛  -- the allocator
   number : (w : Width) (x : ℕ) → x < 2 ^ bits w → Passed 𝓛
-  to_read : Lft × Share → Ptr → List handle_row.Denot → Passed 𝓛                         -- a mesh that the call reads
-  shared : (R : RattleType) → Copied 𝓛 R → Share → Ptr → ℕ → List R.Denot → Passed 𝓛    -- an array of which it has a share
-  filled : (R : RattleType) → Ptr → ℕ → List R.Denot → Passed 𝓛                          -- an array that it may change
+  to_read : Lft × Share → Ptr → List handle_row.Denot → Passed 𝓛  -- a mesh that the call reads
+  shared : (R : RattleType) → Copied 𝓛 R → Share → Ptr → ℕ → List R.Denot → Passed 𝓛  -- an array of which it has a share
+  filled : (R : RattleType) → Ptr → ℕ → List R.Denot → Passed 𝓛  -- an array that it may change
 
 -- where the values at p lie, as many as C tells
 pub record Found (R : RattleType) (p : Ptr) (n : ℕ) (xs : List R.Denot) : Type 0 where
@@ -70,6 +69,7 @@ module _ {M : Type 1} {𝓤 : Ura M} {𝓛 : Logic 𝓤} where
   arrays (shared R copied q p n xs ∷ ps) = lent_shared R q p n xs ∷ arrays ps
   arrays (filled R p n xs ∷ ps) = lent R p n xs ∷ arrays ps
 
+  -- that each array has as many values as C tells
   abbrev pub Counts : List (Passed 𝓛) → Type 0
   Counts [] = Unit {0}
   Counts (handle a h fits ∷ ps) = Counts ps
@@ -78,6 +78,7 @@ module _ {M : Type 1} {𝓤 : Ura M} {𝓛 : Logic 𝓤} where
   Counts (shared R copied q p n xs ∷ ps) = (length xs ≡ count_at (mem R).size p n) × Counts ps
   Counts (filled R p n xs ∷ ps) = (length xs ≡ count_at (mem R).size p n) × Counts ps
 
+  -- where each array lies
   abbrev pub Places : List (Passed 𝓛) → Type 0
   Places [] = Unit {0}
   Places (handle a h fits ∷ ps) = Places ps
@@ -86,7 +87,7 @@ module _ {M : Type 1} {𝓤 : Ura M} {𝓛 : Logic 𝓤} where
   Places (shared R copied q p n xs ∷ ps) = Found R p n xs × Places ps
   Places (filled R p n xs ∷ ps) = Found R p n xs × Places ps
 
-  -- the new lifetimes and ghost names
+  -- the new lifetime_count and ghost names
   abbrev pub Names : List (Passed 𝓛) → Type 0
   Names [] = Unit {0}
   Names (handle a h fits ∷ ps) = Names ps
@@ -104,29 +105,30 @@ module _ {M : Type 1} {𝓤 : Ura M} {𝓛 : Logic 𝓤} where
   News (shared R copied q p n xs ∷ ps) = Unit {0} × News ps
   News (filled R p n xs ∷ ps) = List R.Denot × News ps
 
-  abbrev pub lifetimes : List (Passed 𝓛) → ℕ
-  lifetimes [] = 0
-  lifetimes (handle a h fits ∷ ps) = lifetimes ps
-  lifetimes (number w x low ∷ ps) = lifetimes ps
-  lifetimes (to_read loan p xs ∷ ps) = suc (lifetimes ps)
-  lifetimes (shared R copied q p n xs ∷ ps) = suc (lifetimes ps)
-  lifetimes (filled R p n xs ∷ ps) = suc (lifetimes ps)
+  -- the lifetimes that the call within is given: one for each array, with a share of each, and their tokens
+  abbrev pub lifetime_count : List (Passed 𝓛) → ℕ
+  lifetime_count [] = 0
+  lifetime_count (handle a h fits ∷ ps) = lifetime_count ps
+  lifetime_count (number w x low ∷ ps) = lifetime_count ps
+  lifetime_count (to_read loan p xs ∷ ps) = suc (lifetime_count ps)
+  lifetime_count (shared R copied q p n xs ∷ ps) = suc (lifetime_count ps)
+  lifetime_count (filled R p n xs ∷ ps) = suc (lifetime_count ps)
 
-  abbrev pub lfts : (ps : List (Passed 𝓛)) → Names ps → Lfts (lifetimes ps)
-  lfts [] os = tt
-  lfts (handle a h fits ∷ ps) os = lfts ps os
-  lfts (number w x low ∷ ps) os = lfts ps os
-  lfts (to_read loan p xs ∷ ps) os = (loan.0, lfts ps os)
-  lfts (shared R copied q p n xs ∷ ps) os = (os.0 ∷ [], lfts ps os.1)
-  lfts (filled R p n xs ∷ ps) os = (os.0.0 ∷ [], lfts ps os.1)
+  abbrev pub lifetimes_of : (ps : List (Passed 𝓛)) → Names ps → Lfts (lifetime_count ps)
+  lifetimes_of [] os = tt
+  lifetimes_of (handle a h fits ∷ ps) os = lifetimes_of ps os
+  lifetimes_of (number w x low ∷ ps) os = lifetimes_of ps os
+  lifetimes_of (to_read loan p xs ∷ ps) os = (loan.0, lifetimes_of ps os)
+  lifetimes_of (shared R copied q p n xs ∷ ps) os = (os.0 ∷ [], lifetimes_of ps os.1)
+  lifetimes_of (filled R p n xs ∷ ps) os = (os.0.0 ∷ [], lifetimes_of ps os.1)
 
-  abbrev pub held : (ps : List (Passed 𝓛)) → Shares (lifetimes ps)
-  held [] = tt
-  held (handle a h fits ∷ ps) = held ps
-  held (number w x low ∷ ps) = held ps
-  held (to_read loan p xs ∷ ps) = (loan.1, held ps)
-  held (shared R copied q p n xs ∷ ps) = (full_share, held ps)
-  held (filled R p n xs ∷ ps) = (full_share, held ps)
+  abbrev pub shares_of : (ps : List (Passed 𝓛)) → Shares (lifetime_count ps)
+  shares_of [] = tt
+  shares_of (handle a h fits ∷ ps) = shares_of ps
+  shares_of (number w x low ∷ ps) = shares_of ps
+  shares_of (to_read loan p xs ∷ ps) = (loan.1, shares_of ps)
+  shares_of (shared R copied q p n xs ∷ ps) = (full_share, shares_of ps)
+  shares_of (filled R p n xs ∷ ps) = (full_share, shares_of ps)
 
   abbrev pub tokens : (ps : List (Passed 𝓛)) → Names ps → Fml
   tokens [] os = ftrue
@@ -136,6 +138,7 @@ module _ {M : Type 1} {𝓤 : Ura M} {𝓛 : Logic 𝓤} where
   tokens (shared R copied q p n xs ∷ ps) os = fsep (flft (os.0 ∷ []) full_share) (tokens ps os.1)
   tokens (filled R p n xs ∷ ps) os = fsep (flft (os.0.0 ∷ []) full_share) (tokens ps os.1)
 
+  -- the types of its parameters, their values and machine values, and what they own
   abbrev pub rows : (ps : List (Passed 𝓛)) → Names ps → List RattleType
   rows [] os = []
   rows (handle a h fits ∷ ps) os = Z ∷ rows ps os
@@ -144,21 +147,21 @@ module _ {M : Type 1} {𝓤 : Ura M} {𝓛 : Logic 𝓤} where
   rows (shared R copied q p n xs ∷ ps) os = ShrSlice (named 0) (os.0 ∷ []) R ∷ rows ps os.1
   rows (filled R p n xs ∷ ps) os = MutSlice (named 0) (os.0.0 ∷ []) R ∷ rows ps os.1
 
-  abbrev pub given : (ps : List (Passed 𝓛)) → Places ps → (os : Names ps) → Denots (rows ps os)
-  given [] at os = tt
-  given (handle a h fits ∷ ps) at os = (a, given ps at os)
-  given (number w x low ∷ ps) at os = (x, given ps at os)
-  given (to_read loan p xs ∷ ps) at os = (record { ref_ptr = (at.0.at.block, at.0.at.offset); now = xs }, given ps at.1 os)
-  given (shared R copied q p n xs ∷ ps) at os = (record { ref_ptr = (at.0.at.block, at.0.at.offset); now = xs }, given ps at.1 os.1)
-  given (filled R p n xs ∷ ps) at os = (record { ref_ptr = (at.0.at.block, at.0.at.offset); ghost_name = os.0.1; now = xs }, given ps at.1 os.1)
+  abbrev pub values_of : (ps : List (Passed 𝓛)) → Places ps → (os : Names ps) → Denots (rows ps os)
+  values_of [] at os = tt
+  values_of (handle a h fits ∷ ps) at os = (a, values_of ps at os)
+  values_of (number w x low ∷ ps) at os = (x, values_of ps at os)
+  values_of (to_read loan p xs ∷ ps) at os = (record { ref_ptr = (at.0.at.block, at.0.at.offset); now = xs }, values_of ps at.1 os)
+  values_of (shared R copied q p n xs ∷ ps) at os = (record { ref_ptr = (at.0.at.block, at.0.at.offset); now = xs }, values_of ps at.1 os.1)
+  values_of (filled R p n xs ∷ ps) at os = (record { ref_ptr = (at.0.at.block, at.0.at.offset); ghost_name = os.0.1; now = xs }, values_of ps at.1 os.1)
 
-  abbrev pub vals : (ps : List (Passed 𝓛)) → Places ps → (os : Names ps) → Valss (rows ps os)
-  vals [] at os = tt
-  vals (handle a h fits ∷ ps) at os = (h ∷ [], vals ps at os)
-  vals (number w x low ∷ ps) at os = (vint w x ∷ [], vals ps at os)
-  vals (to_read loan p xs ∷ ps) at os = (slice_val (at.0.at.block, at.0.at.offset) (length xs) ∷ [], vals ps at.1 os)
-  vals (shared R copied q p n xs ∷ ps) at os = (slice_val (at.0.at.block, at.0.at.offset) (length xs) ∷ [], vals ps at.1 os.1)
-  vals (filled R p n xs ∷ ps) at os = (slice_val (at.0.at.block, at.0.at.offset) (length xs) ∷ [], vals ps at.1 os.1)
+  abbrev pub machine_values : (ps : List (Passed 𝓛)) → Places ps → (os : Names ps) → Valss (rows ps os)
+  machine_values [] at os = tt
+  machine_values (handle a h fits ∷ ps) at os = (h ∷ [], machine_values ps at os)
+  machine_values (number w x low ∷ ps) at os = (vint w x ∷ [], machine_values ps at os)
+  machine_values (to_read loan p xs ∷ ps) at os = (slice_val (at.0.at.block, at.0.at.offset) (length xs) ∷ [], machine_values ps at.1 os)
+  machine_values (shared R copied q p n xs ∷ ps) at os = (slice_val (at.0.at.block, at.0.at.offset) (length xs) ∷ [], machine_values ps at.1 os.1)
+  machine_values (filled R p n xs ∷ ps) at os = (slice_val (at.0.at.block, at.0.at.offset) (length xs) ∷ [], machine_values ps at.1 os.1)
 
   abbrev pub owned_all : (ps : List (Passed 𝓛)) → Places ps → (os : Names ps) → Fml
   owned_all [] at os = ftrue
@@ -181,6 +184,7 @@ module _ {M : Type 1} {𝓤 : Ura M} {𝓛 : Logic 𝓤} where
       fsep (flent (os.0 ∷ []) (fsep (feq ℕ (length xs) (length xs)) (parts (mem R) (shares R) q xs at.0.at.block at.0.at.offset))) (kept ps at.1 os.1)
   kept (filled R p n xs ∷ ps) at os = fsep (flent (os.0.0 ∷ []) (Held R (length xs) at.0.at.block at.0.at.offset os.0.1)) (kept ps at.1 os.1)
 
+  -- what its contract says of them at its end
   abbrev pub lasts_all : (ps : List (Passed 𝓛)) → Places ps → Names ps → News ps → Fml
   lasts_all [] at os ws = ftrue
   lasts_all (handle a h fits ∷ ps) at os ws = fsep (left (Z.exit yes) a ws.0) (lasts_all ps at os ws.1)
@@ -200,25 +204,28 @@ module _ {M : Type 1} {𝓤 : Ura M} {𝓛 : Logic 𝓤} where
   lefts (filled R p n xs ∷ ps) ws = lent R p n ws.0 ∷ lefts ps ws.1
 
 module _ {M : Type 1} {𝓤 : Ura M} (𝓛 : Logic 𝓤) where
-  -- formulas of which the last is one of a list, as a contract has them
+  -- the formulas of a contract, with an end
   pub untie : (Ps : List Fml) → ent 𝓤 (sem 𝓛 (tight Ps)) (sem 𝓛 (loose Ps))
   untie [] = id⊢ 𝓤 _
   untie (P ∷ []) = via 𝓤 (sep 𝓤 (emp 𝓤) (sem 𝓛 P)) (emp∗ 𝓤 (sem 𝓛 P)) (comm∗ 𝓤 (emp 𝓤) (sem 𝓛 P))
   untie (P ∷ Q ∷ Ps) = mono_r 𝓤 (sem 𝓛 P) (untie (Q ∷ Ps))
 
+  -- formulas with an assertion at their end
   abbrev pub over : List Fml → SProp 𝓤 → SProp 𝓤
   over [] P = P
   over (Q ∷ Qs) P = sep 𝓤 (sem 𝓛 Q) (over Qs P)
 
-  -- a fact at their end
+  -- such formulas, of a list and an assertion
   pub closed : (Qs : List Fml) (P : SProp 𝓤) → ent 𝓤 (sep 𝓤 (sem 𝓛 (loose Qs)) P) (over Qs P)
   closed [] P = snd∗ 𝓤 (emp 𝓤) P
   closed (Q ∷ Qs) P = via 𝓤 (sep 𝓤 (sem 𝓛 Q) (sep 𝓤 (sem 𝓛 (loose Qs)) P)) (assoc∗ 𝓤 (sem 𝓛 Q) (sem 𝓛 (loose Qs)) P) (mono_r 𝓤 (sem 𝓛 Q) (closed Qs P))
 
 module _ {M : Type 1} {𝓤 : Ura M} {𝓛 : Logic 𝓤} {K : Type 0} {G : Goal 𝓤 𝓛.H} where
+  -- three formulas are put before three others
   sorts : K → {P Q R P' Q' R' : Fml} {Γ : List (Item 𝓤)} → Step K 𝓛 (‵ (fsep P P') ∷ ‵ (fsep Q Q') ∷ ‵ (fsep R R') ∷ Γ) G (‵ P' ∷ ‵ Q' ∷ ‵ R' ∷ ‵ P ∷ ‵ R ∷ ‵ Q ∷ Γ) G
   sorts t = step (λ s. move t (4 ∷ 2 ∷ []) $ fjoin t $ move t (4 ∷ 2 ∷ []) $ fjoin t $ move t (3 ∷ 2 ∷ []) $ fjoin t $ s)
 
+  -- and taken from them
   parts_of : K → {P Q R P' Q' R' : Fml} {Γ : List (Item 𝓤)} → Step K 𝓛 (‵ P' ∷ ‵ Q' ∷ ‵ R' ∷ ‵ P ∷ ‵ Q ∷ ‵ R ∷ Γ) G (‵ (fsep P P') ∷ ‵ (fsep Q Q') ∷ ‵ (fsep R R') ∷ Γ) G
   parts_of t = step (λ s. fsplit t $ move t (2 ∷ []) $ fsplit t $ move t (4 ∷ []) $ fsplit t $ move t (5 ∷ 3 ∷ 1 ∷ 4 ∷ 2 ∷ 0 ∷ []) $ s)
 
