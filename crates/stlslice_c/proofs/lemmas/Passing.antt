@@ -1,5 +1,5 @@
 -- What an export passes on to the call within it: its numbers, and as slices the arrays that C lends. Assumes `Logic`.
-use Rattle.std.proofs.Common.{◌≡◌, ℕ, suc, ◌<◌, ◌^◌, List, [], ◌∷◌, length, refl, sym, ap, subst, w32, zero}
+use Rattle.std.proofs.Common.{◌≡◌, ℕ, suc, ◌<◌, ◌^◌, List, [], ◌∷◌, length, refl, sym, ap, subst, w32, zero, Bor, MutBor}
 use lib.Dec.{T}
 use seplogic.Ra.Ura.{Ura}
 use base.Fraction.{full_share}
@@ -10,13 +10,14 @@ use mir.Val.{Val, vint, bits, has_ty, WT}
 use prog.Wp.{Env, Calls, Loops, spot_of}
 use sound.WpLaws.{FmC}
 use types.Logic.{Logic, sem}
-use types.Kit.{Item, Goal, Soaks, Seq, Step, step, Post, at_ret, prop, frees, runs, lands, mean, nth, del, ‵, raw, ◌⊛◌, some, later, ◌$◌, move, drop, use1, split, join, pick, fsplit, fjoin, feq_l, feq_i, await}
+use types.Kit.{Item, Goal, Soaks, Seq, Step, step, Post, at_ret, prop, frees, runs, lands}
+use types.Kit.{mean, nth, del, ‵, raw, ◌⊛◌, some, later, ◌$◌, move, drop, use1, split, join, pick, fsplit, fjoin, feq_l, feq_i, await}
 use types.Run.{Opds, no_more, and_then, from, stop, init, land, returns}
 use types.ByLocal.{at, cell, get, look_at, set}
 use types.Share.{parts}
 use contract.Lifetimes.{Lfts, Shares}
 use contract.Monad.{fact}
-use denote.RattleType.{RattleType, Denots, Valss}
+use denote.RattleType.{RattleType, Denots, Valss, owns}
 use denote.Copied.{Copied}
 use denote.Exit.{Last, left, yes}
 use denote.Laws.{Is, shows}
@@ -49,12 +50,24 @@ pub record Found (R : RattleType) (p : Ptr) (n : ℕ) (xs : List R.Denot) : Type
   pub at : IsPlaced (length xs) p value
   pub counted : length xs ≡ count_at (mem R).size p n
 
--- all of a list of formulas, as a contract states them and with an end
+module _ {R : RattleType} {p : Ptr} {n : ℕ} {xs : List R.Denot} where
+  -- these values as a slice: its machine value, what a `&` to it is, and what a `&mut` is
+  abbrev pub as_slice : Found R p n xs → Val
+  as_slice f = slice_val (f.at.block, f.at.offset) (length xs)
+
+  abbrev pub shared_at : Found R p n xs → Bor (List R.Denot)
+  shared_at f = record { ref_ptr = (f.at.block, f.at.offset); now = xs }
+
+  abbrev pub filled_at : Found R p n xs → ℕ → MutBor (List R.Denot)
+  filled_at f γ = record { ref_ptr = (f.at.block, f.at.offset); ghost_name = γ; now = xs }
+
+-- all formulas of a list, as a contract states them
 abbrev pub tight : List Fml → Fml
 tight [] = ftrue
 tight (P ∷ []) = P
 tight (P ∷ Q ∷ Ps) = fsep P (tight (Q ∷ Ps))
 
+-- and with `ftrue` at their end
 abbrev pub loose : List Fml → Fml
 loose [] = ftrue
 loose (P ∷ Ps) = fsep P (loose Ps)
@@ -151,28 +164,20 @@ module _ {M : Type 1} {𝓤 : Ura M} {𝓛 : Logic 𝓤} where
   values_of [] at os = tt
   values_of (handle a h fits ∷ ps) at os = (a, values_of ps at os)
   values_of (number w x low ∷ ps) at os = (x, values_of ps at os)
-  values_of (to_read loan p xs ∷ ps) at os = (record { ref_ptr = (at.0.at.block, at.0.at.offset); now = xs }, values_of ps at.1 os)
-  values_of (shared R copied q p n xs ∷ ps) at os = (record { ref_ptr = (at.0.at.block, at.0.at.offset); now = xs }, values_of ps at.1 os.1)
-  values_of (filled R p n xs ∷ ps) at os = (record { ref_ptr = (at.0.at.block, at.0.at.offset); ghost_name = os.0.1; now = xs }, values_of ps at.1 os.1)
+  values_of (to_read loan p xs ∷ ps) at os = (shared_at at.0, values_of ps at.1 os)
+  values_of (shared R copied q p n xs ∷ ps) at os = (shared_at at.0, values_of ps at.1 os.1)
+  values_of (filled R p n xs ∷ ps) at os = (filled_at at.0 os.0.1, values_of ps at.1 os.1)
 
   abbrev pub machine_values : (ps : List (Passed 𝓛)) → Places ps → (os : Names ps) → Valss (rows ps os)
   machine_values [] at os = tt
   machine_values (handle a h fits ∷ ps) at os = (h ∷ [], machine_values ps at os)
   machine_values (number w x low ∷ ps) at os = (vint w x ∷ [], machine_values ps at os)
-  machine_values (to_read loan p xs ∷ ps) at os = (slice_val (at.0.at.block, at.0.at.offset) (length xs) ∷ [], machine_values ps at.1 os)
-  machine_values (shared R copied q p n xs ∷ ps) at os = (slice_val (at.0.at.block, at.0.at.offset) (length xs) ∷ [], machine_values ps at.1 os.1)
-  machine_values (filled R p n xs ∷ ps) at os = (slice_val (at.0.at.block, at.0.at.offset) (length xs) ∷ [], machine_values ps at.1 os.1)
+  machine_values (to_read loan p xs ∷ ps) at os = (as_slice at.0 ∷ [], machine_values ps at.1 os)
+  machine_values (shared R copied q p n xs ∷ ps) at os = (as_slice at.0 ∷ [], machine_values ps at.1 os.1)
+  machine_values (filled R p n xs ∷ ps) at os = (as_slice at.0 ∷ [], machine_values ps at.1 os.1)
 
   abbrev pub owned_all : (ps : List (Passed 𝓛)) → Places ps → (os : Names ps) → Fml
-  owned_all [] at os = ftrue
-  owned_all (handle a h fits ∷ ps) at os = fsep (Z.own_val a (h ∷ [])) (owned_all ps at os)
-  owned_all (number w x low ∷ ps) at os = fsep ((UInt w).own_val x (vint w x ∷ [])) (owned_all ps at os)
-  owned_all (to_read loan p xs ∷ ps) at os =
-      fsep ((ShrSlice (named 0) loan.0 handle_row).own_val (record { ref_ptr = (at.0.at.block, at.0.at.offset); now = xs }) (slice_val (at.0.at.block, at.0.at.offset) (length xs) ∷ [])) (owned_all ps at.1 os)
-  owned_all (shared R copied q p n xs ∷ ps) at os =
-      fsep ((ShrSlice (named 0) (os.0 ∷ []) R).own_val (record { ref_ptr = (at.0.at.block, at.0.at.offset); now = xs }) (slice_val (at.0.at.block, at.0.at.offset) (length xs) ∷ [])) (owned_all ps at.1 os.1)
-  owned_all (filled R p n xs ∷ ps) at os =
-      fsep ((MutSlice (named 0) (os.0.0 ∷ []) R).own_val (record { ref_ptr = (at.0.at.block, at.0.at.offset); ghost_name = os.0.1; now = xs }) (slice_val (at.0.at.block, at.0.at.offset) (length xs) ∷ [])) (owned_all ps at.1 os.1)
+  owned_all ps at os = owns (rows ps os) (values_of ps at os) (machine_values ps at os)
 
   -- what the export keeps during the call
   abbrev pub kept : (ps : List (Passed 𝓛)) → Places ps → Names ps → Fml
@@ -192,7 +197,8 @@ module _ {M : Type 1} {𝓤 : Ura M} {𝓛 : Logic 𝓤} where
   lasts_all (to_read loan p xs ∷ ps) at os ws = fsep ftrue (lasts_all ps at.1 os ws.1)
   lasts_all (shared R copied q p n xs ∷ ps) at os ws = fsep ftrue (lasts_all ps at.1 os.1 ws.1)
   lasts_all (filled R p n xs ∷ ps) at os ws =
-      fsep (left ((MutSlice (named 0) (os.0.0 ∷ []) R).exit yes) (record { ref_ptr = (at.0.at.block, at.0.at.offset); ghost_name = os.0.1; now = xs }) ws.0) (lasts_all ps at.1 os.1 ws.1)
+      fsep (left ((MutSlice (named 0) (os.0.0 ∷ []) R).exit yes) (filled_at at.0 os.0.1) ws.0)
+      (lasts_all ps at.1 os.1 ws.1)
 
   -- the arrays once the call has come back
   abbrev pub lefts : (ps : List (Passed 𝓛)) → News ps → List Fml
@@ -202,6 +208,11 @@ module _ {M : Type 1} {𝓤 : Ura M} {𝓛 : Logic 𝓤} where
   lefts (to_read loan p xs ∷ ps) ws = lent_to_read handle_row loan p 1 xs ∷ lefts ps ws.1
   lefts (shared R copied q p n xs ∷ ps) ws = lent_shared R q p n xs ∷ lefts ps ws.1
   lefts (filled R p n xs ∷ ps) ws = lent R p n ws.0 ∷ lefts ps ws.1
+
+  -- what the call within answers: its tokens, the result r, and what its contract says
+  abbrev pub answered : (ps : List (Passed 𝓛)) → Places ps → Names ps → (A : RattleType) → (A.Denot → News ps → Item 𝓤) → Val → Item 𝓤
+  answered ps at os A Said w =
+      some (λ (r : A.Denot). (‵ (tokens ps os) ⊛ ‵ (A.own_val r (w ∷ []))) ⊛ some (λ (ws : News ps). ‵ (lasts_all ps at os ws) ⊛ Said r ws))
 
 module _ {M : Type 1} {𝓤 : Ura M} (𝓛 : Logic 𝓤) where
   -- the formulas of a contract, with an end
@@ -222,11 +233,13 @@ module _ {M : Type 1} {𝓤 : Ura M} (𝓛 : Logic 𝓤) where
 
 module _ {M : Type 1} {𝓤 : Ura M} {𝓛 : Logic 𝓤} {K : Type 0} {G : Goal 𝓤 𝓛.H} where
   -- three formulas are put before three others
-  sorts : K → {P Q R P' Q' R' : Fml} {Γ : List (Item 𝓤)} → Step K 𝓛 (‵ (fsep P P') ∷ ‵ (fsep Q Q') ∷ ‵ (fsep R R') ∷ Γ) G (‵ P' ∷ ‵ Q' ∷ ‵ R' ∷ ‵ P ∷ ‵ R ∷ ‵ Q ∷ Γ) G
+  sorts : K → {P Q R P' Q' R' : Fml} {Γ : List (Item 𝓤)} → Step K 𝓛 (‵ (fsep P P') ∷ ‵ (fsep Q Q') ∷ ‵ (fsep R R') ∷ Γ) G
+      (‵ P' ∷ ‵ Q' ∷ ‵ R' ∷ ‵ P ∷ ‵ R ∷ ‵ Q ∷ Γ) G
   sorts t = step (λ s. move t (4 ∷ 2 ∷ []) $ fjoin t $ move t (4 ∷ 2 ∷ []) $ fjoin t $ move t (3 ∷ 2 ∷ []) $ fjoin t $ s)
 
   -- and taken from them
-  parts_of : K → {P Q R P' Q' R' : Fml} {Γ : List (Item 𝓤)} → Step K 𝓛 (‵ P' ∷ ‵ Q' ∷ ‵ R' ∷ ‵ P ∷ ‵ Q ∷ ‵ R ∷ Γ) G (‵ (fsep P P') ∷ ‵ (fsep Q Q') ∷ ‵ (fsep R R') ∷ Γ) G
+  parts_of : K → {P Q R P' Q' R' : Fml} {Γ : List (Item 𝓤)} → Step K 𝓛 (‵ P' ∷ ‵ Q' ∷ ‵ R' ∷ ‵ P ∷ ‵ Q ∷ ‵ R ∷ Γ) G
+      (‵ (fsep P P') ∷ ‵ (fsep Q Q') ∷ ‵ (fsep R R') ∷ Γ) G
   parts_of t = step (λ s. fsplit t $ move t (2 ∷ []) $ fsplit t $ move t (4 ∷ []) $ fsplit t $ move t (5 ∷ 3 ∷ 1 ∷ 4 ∷ 2 ∷ 0 ∷ []) $ s)
 
   -- how many values there are of each array
@@ -234,23 +247,29 @@ module _ {M : Type 1} {𝓤 : Ura M} {𝓛 : Logic 𝓤} {K : Type 0} {G : Goal 
   counts_of t [] k = k tt
   counts_of t (handle a h fits ∷ ps) k = fsplit t $ move t (1 ∷ []) $ counts_of t ps (λ cs. move t (1 ∷ 0 ∷ []) $ fjoin t $ k cs)
   counts_of t (number w x low ∷ ps) k = counts_of t ps k
-  counts_of t (to_read loan p xs ∷ ps) k = fsplit t $ fsplit t $ feq_l t (λ e. feq_i t ℕ _ _ e $ fjoin t $ move t (1 ∷ []) $ counts_of t ps (λ cs. move t (1 ∷ 0 ∷ []) $ fjoin t $ k (e, cs)))
-  counts_of t (shared R copied q p n xs ∷ ps) k = fsplit t $ fsplit t $ feq_l t (λ e. feq_i t ℕ _ _ e $ fjoin t $ move t (1 ∷ []) $ counts_of t ps (λ cs. move t (1 ∷ 0 ∷ []) $ fjoin t $ k (e, cs)))
-  counts_of t (filled R p n xs ∷ ps) k = fsplit t $ fsplit t $ feq_l t (λ e. feq_i t ℕ _ _ e $ fjoin t $ move t (1 ∷ []) $ counts_of t ps (λ cs. move t (1 ∷ 0 ∷ []) $ fjoin t $ k (e, cs)))
+  counts_of t (to_read loan p xs ∷ ps) k = fsplit t $ fsplit t $ feq_l t (λ e. feq_i t ℕ _ _ e $ fjoin t $
+      move t (1 ∷ []) $ counts_of t ps (λ cs. move t (1 ∷ 0 ∷ []) $ fjoin t $ k (e, cs)))
+  counts_of t (shared R copied q p n xs ∷ ps) k = fsplit t $ fsplit t $ feq_l t (λ e. feq_i t ℕ _ _ e $ fjoin t $
+      move t (1 ∷ []) $ counts_of t ps (λ cs. move t (1 ∷ 0 ∷ []) $ fjoin t $ k (e, cs)))
+  counts_of t (filled R p n xs ∷ ps) k = fsplit t $ fsplit t $ feq_l t (λ e. feq_i t ℕ _ _ e $ fjoin t $
+      move t (1 ∷ []) $ counts_of t ps (λ cs. move t (1 ∷ 0 ∷ []) $ fjoin t $ k (e, cs)))
 
   -- all arrays are lent
   pub lends_all : K → Soaks G → (ps : List (Passed 𝓛)) (at : Places ps) {Γ : List (Item 𝓤)}
       → ((os : Names ps) → Seq K 𝓛 (‵ (owned_all ps at os) ∷ ‵ (tokens ps os) ∷ ‵ (kept ps at os) ∷ Γ) G) → Seq K 𝓛 (‵ (loose (arrays ps)) ∷ Γ) G
   lends_all t z [] at k = nothing t $ nothing t $ k tt
   lends_all t z (handle a h fits ∷ ps) at k = fsplit t $ move t (1 ∷ []) $ lends_all t z ps at (λ os. move t (3 ∷ 0 ∷ []) $ fjoin t $ k os)
-  lends_all t z (number w x low ∷ ps) at k = lends_all t z ps at (λ os. owned t (UInt w) (Is (UInt w)) (uint_Makes 𝓛 w) x (vint w x ∷ []) (refl, low) $ fjoin t $ k os)
+  lends_all t z (number w x low ∷ ps) at k =
+      lends_all t z ps at (λ os. owned t (UInt w) (Is (UInt w)) (uint_Makes 𝓛 w) x (vint w x ∷ []) (refl, low) $ fjoin t $ k os)
   lends_all t z (to_read loan p xs ∷ ps) at k =
       fsplit t $ fsplit t $ drop t $ fsplit t $ reads t handle_row handle_laws.shr_laws loan.0 p xs at.0.at (rooms handle_row (length xs) p 1 at.0.counted) $
       move t (3 ∷ []) $ lends_all t z ps at.1 (λ os. sorts t $ k os)
   lends_all t z (shared R copied q p n xs ∷ ps) at k =
-      fsplit t $ fsplit t $ drop t $ shares_out t z R copied q p xs at.0.at (rooms R (length xs) p n at.0.counted) (λ α. move t (3 ∷ []) $ lends_all t z ps at.1 (λ os. sorts t $ k (α, os)))
+      fsplit t $ fsplit t $ drop t $ shares_out t z R copied q p xs at.0.at (rooms R (length xs) p n at.0.counted) (λ α.
+      move t (3 ∷ []) $ lends_all t z ps at.1 (λ os. sorts t $ k (α, os)))
   lends_all t z (filled R p n xs ∷ ps) at k =
-      fsplit t $ fsplit t $ drop t $ lends t z R p xs at.0.at (rooms R (length xs) p n at.0.counted) (λ α γ. move t (3 ∷ []) $ lends_all t z ps at.1 (λ os. sorts t $ k ((α, γ), os)))
+      fsplit t $ fsplit t $ drop t $ lends t z R p xs at.0.at (rooms R (length xs) p n at.0.counted) (λ α γ.
+      move t (3 ∷ []) $ lends_all t z ps at.1 (λ os. sorts t $ k ((α, γ), os)))
 
   -- and come back
   pub comes_all : K → Soaks G → (ps : List (Passed 𝓛)) (at : Places ps) (os : Names ps) (ws : News ps) {Γ : List (Item 𝓤)}
@@ -262,10 +281,12 @@ module _ {M : Type 1} {𝓤 : Ura M} {𝓛 : Logic 𝓤} {K : Type 0} {G : Goal 
       read_back t handle_row loan p 1 xs at.0.counted $ fjoin t $ move t (1 ∷ []) $ drop t $ s)
   comes_all t z (shared R copied q p n xs ∷ ps) at os ws = step (λ s. parts_of t $ comes_all t z ps at.1 os.1 ws.1 $ move t (1 ∷ 2 ∷ []) $
       comes_back t z R q p n xs at.0.at at.0.counted $ fjoin t $ move t (1 ∷ []) $ drop t $ s)
-  comes_all t z (filled R p n xs ∷ ps) at os ws = step (λ s. parts_of t $ comes_all t z ps at.1 os.1 ws.1 $ move t (3 ∷ []) $ fsplit t $ fsplit t $ move t (4 ∷ 5 ∷ 0 ∷ []) $
+  comes_all t z (filled R p n xs ∷ ps) at os ws = step (λ s. parts_of t $ comes_all t z ps at.1 os.1 ws.1 $ move t (3 ∷ []) $
+      fsplit t $ fsplit t $ move t (4 ∷ 5 ∷ 0 ∷ []) $
       comes t z R p n (length xs) ws.0 at.0.at at.0.counted $ move t (0 ∷ 3 ∷ []) $ fjoin t $ move t (1 ∷ 2 ∷ []) $ drop t $ drop t $ s)
 
 -- ---- operands that are locals
+-- the local that an operand copies
 abbrev local_in : Operand → ℕ
 local_in (copy (place i st)) = i
 local_in x = 0
@@ -274,11 +295,13 @@ abbrev locals_in : List Operand → List ℕ
 locals_in [] = []
 locals_in (x ∷ xs) = local_in x ∷ locals_in xs
 
+-- operands that copy these locals
 abbrev copies : List ℕ → List Operand
 copies [] = []
 copies (i ∷ is) = copy (place i []) ∷ copies is
 
 module _ {M : Type 1} {𝓤 : Ura M} (𝓛 : Logic 𝓤) (E : Env 𝓤 𝓛.H) where
+  -- how these locals stand in a context, and how they do if they hold these values
   abbrev met : List (Item 𝓤) → List ℕ → List Val → List (Item 𝓤)
   met Γ [] vs = []
   met Γ (i ∷ is) [] = []
@@ -289,12 +312,14 @@ module _ {M : Type 1} {𝓤 : Ura M} (𝓛 : Logic 𝓤) (E : Env 𝓤 𝓛.H) w
   needed (i ∷ is) [] = []
   needed (i ∷ is) (v ∷ vs) = ‵ (fat full_share (spot_of 𝓤 𝓛.H E i).0 (spot_of 𝓤 𝓛.H E i).1 zero v) ∷ needed is vs
 
+  -- there are as many locals as values
   abbrev as_many : List ℕ → List Val → Type 0
   as_many [] [] = Unit {0}
   as_many [] (v ∷ vs) = ⊥
   as_many (i ∷ is) [] = ⊥
   as_many (i ∷ is) (v ∷ vs) = as_many is vs
 
+  -- then the operands evaluate to the values
   copied_all : (K : Type 0) → K → (Γ : List (Item 𝓤)) (is : List ℕ) (vs : List Val) → as_many is vs → met Γ is vs ≡ needed is vs → Opds K 𝓛 Γ E (copies is) vs
   copied_all K t Γ [] [] n e = no_more t
   copied_all K t Γ [] (v ∷ vs) n e = absurd n
@@ -305,22 +330,30 @@ module _ {M : Type 1} {𝓤 : Ura M} (𝓛 : Logic 𝓤) (E : Env 𝓤 𝓛.H) w
   abbrev pub Hold : List (Item 𝓤) → List Operand → List Val → Type 2
   Hold Γ xs vs = (xs ≡ copies (locals_in xs)) × as_many (locals_in xs) vs × (met Γ (locals_in xs) vs ≡ needed (locals_in xs) vs)
 
+  -- the result's local holds v
   abbrev pub result_in : Val → Item 𝓤
   result_in v = ‵ (fat full_share (spot_of 𝓤 𝓛.H E 0).0 (spot_of 𝓤 𝓛.H E 0).1 zero v)
 
+  -- it is free before v is stored there
+  abbrev pub Free : List (Item 𝓤) → Val → Type 2
+  Free Γ v = (at 𝓛 0 Γ ∷ at 𝓛 0 (set 𝓛 0 (result_in v) Γ) ∷ []) ≡ (‵ (froom (spot_of 𝓤 𝓛.H E 0).0 (spot_of 𝓤 𝓛.H E 0).1 zero) ∷ result_in v ∷ [])
+
 -- The call within an export: what is lent goes in, and comes back with the answer r and what the contract says of it.
-module _ {M : Type 1} {𝓤 : Ura M} {𝓛 : Logic 𝓤} {K : Type 0} {Γ : List (Item 𝓤)} {E : Env 𝓤 𝓛.H} {C : Calls 𝓤 𝓛.H} {Λ : Loops 𝓤 𝓛.H} {q : Post 𝓤 𝓛.H} {f : Callee} {xs : List Operand} {d : Spot} {rest : Body} where
+module _ {M : Type 1} {𝓤 : Ura M} {𝓛 : Logic 𝓤} {K : Type 0} {Γ : List (Item 𝓤)}
+    {E : Env 𝓤 𝓛.H} {C : Calls 𝓤 𝓛.H} {Λ : Loops 𝓤 𝓛.H} {q : Post 𝓤 𝓛.H} {f : Callee} {xs : List Operand} {d : Spot} {rest : Body} where
   pub passes_on : K → FmC 𝓤 𝓛.H 𝓛.laws C → (c : Contract 𝓤) → Triple 𝓤 (C f) c → (ps : List (Passed 𝓛)) (at : Places ps) (y : Names ps → c.Ghost)
       → ((os : Names ps) → ent 𝓤 (sep 𝓤 (sep 𝓤 (sem 𝓛 (tokens ps os)) (sem 𝓛 (owned_all ps at os))) (emp 𝓤)) (c.pre (y os)))
       → (A : RattleType) (Said : A.Denot → News ps → Item 𝓤)
-      → ((os : Names ps) (w : Val) → ent 𝓤 (c.post (y os) w) (𝓛.H.⇛ (mean 𝓛 (some (λ (r : A.Denot). (‵ (tokens ps os) ⊛ ‵ (A.own_val r (w ∷ []))) ⊛ some (λ (ws : News ps). ‵ (lasts_all ps at os ws) ⊛ Said r ws))))))
+      → ((os : Names ps) (w : Val) → ent 𝓤 (c.post (y os) w) (𝓛.H.⇛ (mean 𝓛 (answered ps at os A Said w))))
       → ((os : Names ps) → Hold 𝓛 E (raw (c.pre (y os)) ∷ ‵ (kept ps at os) ∷ Γ) xs (c.args (y os)))
       → ((w : Val) (r : A.Denot) (ws : News ps) → Seq K 𝓛 (Said r ws ∷ ‵ (A.own_val r (w ∷ [])) ∷ ‵ (loose (lefts ps ws)) ∷ Γ) (lands C Λ E d w rest q))
       → Seq K 𝓛 (‵ (loose (arrays ps)) ∷ Γ) (runs C Λ E (seq (call f xs d) rest) q)
-  passes_on t fm c calls ps at y goes A Said told hold k = lends_all t tt ps at (λ os. move t (1 ∷ 0 ∷ []) $ join t $ nothing t $ move t (1 ∷ 0 ∷ []) $ join t $ use1 𝓛 (raw (c.pre (y os))) (goes os) $
+  passes_on t fm c calls ps at y goes A Said told hold k = lends_all t tt ps at (λ os.
+      move t (1 ∷ 0 ∷ []) $ join t $ nothing t $ move t (1 ∷ 0 ∷ []) $ join t $ use1 𝓛 (raw (c.pre (y os))) (goes os) $
       calls_at t fm c calls (y os)
-      (subst (λ (us : List Operand). Opds K 𝓛 (raw (c.pre (y os)) ∷ ‵ (kept ps at os) ∷ Γ) E us (c.args (y os))) (sym (hold os).0) (copied_all 𝓛 E K t _ (locals_in xs) (c.args (y os)) (hold os).1 (hold os).2)) (λ w.
-      use1 𝓛 (later (some (λ (r : A.Denot). (‵ (tokens ps os) ⊛ ‵ (A.own_val r (w ∷ []))) ⊛ some (λ (ws : News ps). ‵ (lasts_all ps at os ws) ⊛ Said r ws)))) (told os w) $
+      (subst (λ (us : List Operand). Opds K 𝓛 (raw (c.pre (y os)) ∷ ‵ (kept ps at os) ∷ Γ) E us (c.args (y os))) (sym (hold os).0)
+      (copied_all 𝓛 E K t _ (locals_in xs) (c.args (y os)) (hold os).1 (hold os).2)) (λ w.
+      use1 𝓛 (later (answered ps at os A Said w)) (told os w) $
       await t tt $ pick t (λ r. split t $ split t $ move t (2 ∷ []) $ pick t (λ ws. split t $ move t (2 ∷ 4 ∷ 0 ∷ []) $ comes_all t tt ps at os ws $ move t (1 ∷ 2 ∷ []) $ k w r ws))))
 
 module _ {M : Type 1} {𝓤 : Ura M} {𝓛 : Logic 𝓤} {K : Type 0} {Γ : List (Item 𝓤)} {E : Env 𝓤 𝓛.H} {C : Calls 𝓤 𝓛.H} {Λ : Loops 𝓤 𝓛.H} {f : Callee} {xs : List Operand} where
@@ -328,15 +361,17 @@ module _ {M : Type 1} {𝓤 : Ura M} {𝓛 : Logic 𝓤} {K : Type 0} {Γ : List
   pub answers_with : K → FmC 𝓤 𝓛.H 𝓛.laws C → (c : Contract 𝓤) → Triple 𝓤 (C f) c → (ps : List (Passed 𝓛)) (found : Places ps) (y : Names ps → c.Ghost)
       → ((os : Names ps) → ent 𝓤 (sep 𝓤 (sep 𝓤 (sem 𝓛 (tokens ps os)) (sem 𝓛 (owned_all ps found os))) (emp 𝓤)) (c.pre (y os)))
       → (Refused Answered : ℕ → News ps → Type 0)
-      → ((os : Names ps) (w : Val) → ent 𝓤 (c.post (y os) w) (𝓛.H.⇛ (mean 𝓛 (some (λ (r : ℕ). (‵ (tokens ps os) ⊛ ‵ ((UInt w32).own_val r (w ∷ []))) ⊛ some (λ (ws : News ps). ‵ (lasts_all ps found os ws) ⊛ raw (fact 𝓤 (Refused r ws)) ⊛ raw (fact 𝓤 (Answered r ws))))))))
+      → ((os : Names ps) (w : Val) → ent 𝓤 (c.post (y os) w) (𝓛.H.⇛ (mean 𝓛 (answered ps found os (UInt w32) (λ r ws. raw (fact 𝓤 (Refused r ws)) ⊛ raw (fact 𝓤 (Answered r ws))) w))))
       → ((os : Names ps) → Hold 𝓛 E (raw (c.pre (y os)) ∷ ‵ (kept ps found os) ∷ Γ) xs (c.args (y os))) → (spot_of 𝓤 𝓛.H E 0).0 ≡ ty_int w32
-      → ((Δ : Item 𝓤) (Δ' : Item 𝓤) (w : Val) → (at 𝓛 0 (Δ ∷ Δ' ∷ Γ) ∷ at 𝓛 0 (set 𝓛 0 (result_in 𝓛 E w) (Δ ∷ Δ' ∷ Γ)) ∷ []) ≡ (‵ (froom (spot_of 𝓤 𝓛.H E 0).0 (spot_of 𝓤 𝓛.H E 0).1 zero) ∷ result_in 𝓛 E w ∷ []))
+      → ((A B : Item 𝓤) (w : Val) → Free 𝓛 E (A ∷ B ∷ Γ) w)
       → {Kf : Val → SProp 𝓤}
-      → ((w : Val) (r : ℕ) (ws : News ps) → Refused r ws × Answered r ws → Seq K 𝓛 (set 𝓛 0 (result_in 𝓛 E w) (‵ ((UInt w32).own_val r (w ∷ [])) ∷ ‵ (loose (lefts ps ws)) ∷ Γ)) (frees E (prop (Kf w))))
+      → ((w : Val) (r : ℕ) (ws : News ps) → Refused r ws × Answered r ws
+      → Seq K 𝓛 (set 𝓛 0 (result_in 𝓛 E w) (‵ ((UInt w32).own_val r (w ∷ [])) ∷ ‵ (loose (lefts ps ws)) ∷ Γ)) (frees E (prop (Kf w))))
       → Seq K 𝓛 (‵ (loose (arrays ps)) ∷ Γ) (runs C Λ E (seq (call f xs (place 0 [])) return) (at_ret E Kf))
   answers_with t fm c calls ps found y goes Refused Answered told hold τ res k =
       passes_on t fm c calls ps found y goes (UInt w32) (λ r ws. raw (fact 𝓤 (Refused r ws)) ⊛ raw (fact 𝓤 (Answered r ws))) told hold (λ w r ws.
-      split t $ heard t _ (λ refused. heard t _ (λ answered. peeks t (UInt w32) (Is (UInt w32)) (shows 𝓛 (UInt w32)) r (w ∷ []) (λ ok.
-      land t (from t (stop t)) (init t (cell 0 (‵ ((UInt w32).own_val r (w ∷ [])) ∷ ‵ (loose (lefts ps ws)) ∷ Γ)) (ap (nth 𝓛 0) (res (‵ ((UInt w32).own_val r (w ∷ []))) (‵ (loose (lefts ps ws))) w))
+      let Own : Item 𝓤 = ‵ ((UInt w32).own_val r (w ∷ [])) in let Rest : Item 𝓤 = ‵ (loose (lefts ps ws)) in
+      split t $ heard t _ (λ refused. heard t _ (λ answers. peeks t (UInt w32) (Is (UInt w32)) (shows 𝓛 (UInt w32)) r (w ∷ []) (λ ok.
+      land t (from t (stop t)) (init t (cell 0 (Own ∷ Rest ∷ Γ)) (ap (nth 𝓛 0) (res Own Rest w))
       (subst (λ (σ : Ty). T (has_ty σ w) × WT w) (sym τ) (((uint_Lawful 𝓛 w32).typed r (w ∷ []) ok).0))) $
-      returns t (look_at t 0 (ap (nth 𝓛 1) (res (‵ ((UInt w32).own_val r (w ∷ []))) (‵ (loose (lefts ps ws))) w))) $ k w r ws (refused, answered)))))
+      returns t (look_at t 0 (ap (nth 𝓛 1) (res Own Rest w))) $ k w r ws (refused, answers)))))

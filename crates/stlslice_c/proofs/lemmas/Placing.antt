@@ -21,7 +21,6 @@ use denote.Memory.{mem}
 use denote.Param.{layout}
 use denote.RattleType.{RattleType}
 use denote.RawPtr.{Ptr, block_ptr, ptr_val, Testable}
-use denote.Slice.{slice_val}
 use denote.Steps.{nothing}
 use denote.Triple.Call.{calls_from}
 use denote.Triple.Spec.{triple_of}
@@ -33,17 +32,15 @@ use Rattle.stlslice_c.proofs.places.Place.TheLaws.{lowers}
 use Rattle.stlslice_c.proofs.places.place_of.Symbol.{name as #place}
 use Rattle.stlslice_c.specs.contracts.places.place_of as placing
 use Rattle.stlslice_c.proofs.lemmas.Lending.{IsPlaced, placed, tells, rooms}
-use Rattle.stlslice_c.proofs.lemmas.Passing.{Found}
+use Rattle.stlslice_c.proofs.lemmas.Passing.{Found, as_slice}
 
 -- the machine value of a place that was found
 abbrev pub place_val : {R : RattleType} {p : Ptr} {n : ℕ} {xs : List R.Denot} → Found R p n xs → Val
 place_val {xs = xs} f = lowers.lowered (record { at = block_ptr f.at.block f.at.offset; count = length xs })
 
+-- the machine value of a pointer to its first value
 abbrev pub start : {R : RattleType} {p : Ptr} {n : ℕ} {xs : List R.Denot} → Found R p n xs → Val
 start f = vptr f.at.block f.at.offset
-
-abbrev pub as_slice : {R : RattleType} {p : Ptr} {n : ℕ} {xs : List R.Denot} → Found R p n xs → Val
-as_slice {xs = xs} f = slice_val (f.at.block, f.at.offset) (length xs)
 
 -- a table of calls, and what a call of `place_of` in it tells (`Lending.antt`'s `placed`)
 pub record Finder {M : Type 1} {𝓤 : Ura M} (𝓛 : Logic 𝓤) (C : Calls 𝓤 𝓛.H) : Type 2 where
@@ -51,6 +48,7 @@ pub record Finder {M : Type 1} {𝓤 : Ura M} (𝓛 : Logic 𝓤) (C : Calls �
   pub places : (m : ℕ) (p : Ptr) (n size : ℕ) → m ≡ count_at size p n → Testable p → 0 < size → n < 2 ^ 64 → size < 2 ^ 64
       → ent 𝓤 (sem 𝓛 ftrue) (C #place (ptr_val p ∷ vint w64 n ∷ vint w64 size ∷ []) (λ v. 𝓛.H.⇛ (fact 𝓤 (IsPlaced m p v))))
 
+-- both from the proof of `place_of`
 pub finder : {M : Type 1} {𝓤 : Ura M} (𝓛 : Logic 𝓤) (𝓜 : Model 𝓤 𝓛.H) (𝓡 : Running 𝓤 𝓛.H 𝓜)
     → Triple 𝓤 ((tables 𝓤 𝓛.H 𝓜 𝓡 𝓡.env).C #place) (triple_of 𝓛 placing.signature (placing.spec 𝓛 𝓜.mem 𝓡.returns)) → Finder 𝓛 (tables 𝓤 𝓛.H 𝓜 𝓡 𝓡.env).C
 finder {𝓤 = 𝓤} 𝓛 𝓜 𝓡 met =
@@ -68,6 +66,7 @@ module _ {M : Type 1} {𝓤 : Ura M} (𝓛 : Logic 𝓤) (E : Env 𝓤 𝓛.H) w
   free i = ‵ (froom (spot_of 𝓤 𝓛.H E i).0 (spot_of 𝓤 𝓛.H E i).1 zero)
 
 module _ {M : Type 1} {𝓤 : Ura M} {𝓛 : Logic 𝓤} {K : Type 0} where
+  -- a part of an entry is a part of the same entry
   part_at : {I J : Item 𝓤} → I ≡ J → {q : Share} {τ : Ty} {b o : ℕ} {v : Val} {back : Val → Item 𝓤} → Part K 𝓛 J q τ b o v back → Part K 𝓛 I q τ b o v back
   part_at e {q} {τ} {b} {o} {v} {back} p = subst (λ (I : Item 𝓤). Part K 𝓛 I q τ b o v back) (sym e) p
 
@@ -86,6 +85,7 @@ module _ {M : Type 1} {𝓤 : Ura M} {𝓛 : Logic 𝓤} {K : Type 0} {Γ : List
 module _ {M : Type 1} {𝓤 : Ura M} {𝓛 : Logic 𝓤} {K : Type 0} {Γ : List (Item 𝓤)} {E : Env 𝓤 𝓛.H} {C : Calls 𝓤 𝓛.H} {Λ : Loops 𝓤 𝓛.H} {q : Post 𝓤 𝓛.H} {rest : Body} where
   open 𝓛 use {H}
 
+  -- the call of `place_of`
   found : K → Finder 𝓛 C → (R : RattleType) (p : Ptr) (n : ℕ) (xs : List R.Denot) → length xs ≡ count_at (mem R).size p n → Testable p → n < 2 ^ 64
       → T (ltb 0 (mem R).size) → T (ltb (mem R).size (2 ^ bits w64)) → {ops : List Operand} {i : ℕ} → Opds K 𝓛 (‵ ftrue ∷ Γ) E ops (ptr_val p ∷ vint w64 n ∷ vint w64 (mem R).size ∷ [])
       → at 𝓛 i Γ ≡ free 𝓛 E i → type_of 𝓛 E i ≡ layout Place
