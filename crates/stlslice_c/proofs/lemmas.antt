@@ -4,3 +4,6 @@ pub mod Walk
 pub mod Given
 pub mod Reading
 pub mod Fronts
+pub mod Passing
+pub mod Exported
+pub mod Placing

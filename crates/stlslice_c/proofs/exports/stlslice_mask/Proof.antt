@@ -1,14 +1,8 @@
-use Rattle.stlslice_c.proofs.lemmas.Walk.{ℕ, List, [], ◌∷◌, length, refl, sym, subst, w32, w64, lit<, Bor, MutBor, Val, vint, full_share, SProp, ent}
-use Rattle.stlslice_c.proofs.lemmas.Walk.{emp, id⊢, ex_i, ftrue, flft, WpFn, Item, ‵, raw, ◌⊛◌, some, later, ◌$◌, ◌∵◌, !, qed, by, move, keep, drop}
-use Rattle.stlslice_c.proofs.lemmas.Walk.{use0, use1, split, join, pick, fsplit, fjoin, feq_l, await, suffices, mean, stop, fld, of_opd, lit, no_more}
-use Rattle.stlslice_c.proofs.lemmas.Walk.{and_then, returns, enter, alloc_all, pass_all, free_all, look_at, get, get_in, sets, lands_as, agg, sub}
-use Rattle.stlslice_c.proofs.lemmas.Walk.{whole, fact, fact_i, tables, u8, u32, usize, yes, Is, shows, uint_Makes, uint_Lawful, owns, RawPtr, ptr_val}
-use Rattle.stlslice_c.proofs.lemmas.Walk.{Testable, types_at, plain, Room, slice_val, nothing, heard, owned, peeks, calls_from, calls_at, lasts}
-use Rattle.stlslice_c.proofs.lemmas.Walk.{triple_of, framed, Stays, stay_dropped, Goes-dropped, walk_of, proved_at, leaves}
-use Rattle.stlslice_c.proofs.lemmas.Lending.{placed, tells, lends, comes, reads, read_back, rooms, joined, ptr_good}
-use Rattle.stlslice_c.specs.Pointers.{lent, lent_to_read}
+use Rattle.stlslice_c.proofs.lemmas.Walk.{ℕ, List, [], ◌∷◌, refl, w32, w64, SProp, id⊢, ex_i, ◌$◌, !, by, keep, of_opd, alloc_all, pass_all}
+use Rattle.stlslice_c.proofs.lemmas.Walk.{free_all, get, sets, fact, u8, usize, Testable, triple_of, ptr_good, Passed, number, to_read, filled}
+use Rattle.stlslice_c.proofs.lemmas.Walk.{Places, answers_with, lifetimes_of, shares_of, values_of, machine_values, over, lefts, finder, finds_one}
+use Rattle.stlslice_c.proofs.lemmas.Walk.{finds_many, slices, slices_bytes, export_proved, begins, enters, words, typed, told, locals_of, walk_ends}
 use Rattle.stlslice_c.specs.contracts.handle.Handle.{the_row as handle_row}
-use Rattle.stlslice_c.proofs.handle.Handle.TheLaws.{the_row_laws as handle_laws}
 use Rattle.stlslice_c.specs.Calls.{IsMaskCall, IsMaskRefused, IsMaskAnswered}
 use Rattle.stlslice_c.specs.contracts.given.mask as callee
 use Rattle.stlslice_c.proofs.given.mask.Met.{met as callee_met}
@@ -20,128 +14,26 @@ use Rattle.stlslice_c.proofs.exports.stlslice_mask.Code as code
 
 pub stlslice_mask_spec : {M : Type 1} → statement M
 stlslice_mask_spec 𝓤 𝓛 𝓜 𝓡 wired =
-    let H = 𝓛.H in let 𝓣 = tables 𝓤 H 𝓜 𝓡 𝓡.env in let c = clauses 𝓛 𝓜.mem 𝓡.returns in let fn = code.function in let fm = framed 𝓤 H 𝓜 𝓣 in
-    let places = placed 𝓛 𝓜.mem 𝓡.returns 𝓣.C fm (place_met 𝓤 𝓛 𝓜 𝓡 (code.calls-stlslice_c::places::place_of 𝓡.env wired)) in
-    let asks = triple_of 𝓛 callee.signature (callee.spec 𝓛 𝓜.mem 𝓡.returns) in
-    let answers = callee_met 𝓤 𝓛 𝓜 𝓡 (code.calls-stlslice_c::given::mask 𝓡.env wired) in
-    let pointer = Goes-dropped 𝓛 0 (plain (λ _. RawPtr)) yes (λ κs x f. refl) in let stays-pointer = stay_dropped (plain (λ _. RawPtr)) yes in
-    let goes-u32 = Goes-dropped 𝓛 0 (plain (λ _. u32)) yes (λ κs x f. refl) in let stays-u32 = stay_dropped (plain (λ _. u32)) yes in
-    let goes-usize = Goes-dropped 𝓛 0 (plain (λ _. usize)) yes (λ κs x f. refl) in let stays-usize = stay_dropped (plain (λ _. usize)) yes in
-    let hs : Stays ended.signature.params ended.kept = (stays-pointer, (stays-u32, (stays-pointer, (stays-usize, (stays-pointer, tt))))) in
-    proved_at 𝓛 ended hs c 𝓜 𝓡 (pointer, (goes-u32, (pointer, (goes-usize, (pointer, tt))))) #self fn (code.unfolded 𝓤 H 𝓜 𝓡 wired) (λ z are.
-    let κs = z.0.0 in let mesh = z.0.3.0 in let k = z.0.3.1.0 in let image = z.0.3.1.1.0 in let image_room = z.0.3.1.1.1.0 in
-    let image_size = z.0.3.1.1.1.1.0 in
-    let mesh-loan = z.1.0 in let mesh-was = z.1.1 in let image-was = z.1.2 in let image_size-was = z.1.3 in
-    let Post : Val → SProp 𝓤 = (walk_of 𝓛 ended hs c).post z in let Run : List Val → SProp 𝓤 = λ ws. WpFn 𝓤 H 𝓣.C 𝓣.Λ fn ws Post in
-    qed 𝓛 ((‵ ftrue ⊛ ‵ (owns (types_at ended.signature.params κs) z.0.3 z.0.4)) ∷ raw ((c κs z.0.3).requires z.1) ∷ []) ∵ split ! $ drop ! $
-    drop ! $
-    let words : List Val = ptr_val mesh ∷ vint w32 k ∷ ptr_val image ∷ vint w64 image_room ∷ ptr_val image_size ∷ [] in
-    let same = joined are.0 (joined are.1.0.0 (joined are.1.1.0 (joined are.1.1.1.0.0 (joined are.1.1.1.1.0 refl)))) in
-    suffices ! (Run words) (subst (λ (us : List Val). ent 𝓤 (Run words) (Run us)) (sym same) (id⊢ 𝓤 (Run words))) $
-    let Lent : Item 𝓤 = raw (fact 𝓤 (Testable mesh × Testable image × Testable image_size))
-    ⊛ ‵ (lent_to_read handle_row mesh-loan mesh 1 mesh-was)
-    ⊛ ‵ (lent u8 image image_room image-was)
-    ⊛ ‵ (lent usize image_size 1 image_size-was) in
-    use1 𝓛 Lent (id⊢ 𝓤 _) $ split ! $ heard ! _ (λ tests.
-    split ! $ fsplit ! $ feq_l ! (λ mesh-counted. fsplit ! $ move ! (2 ∷ []) $
-    split ! $ fsplit ! $ feq_l ! (λ image-counted. move ! (1 ∷ []) $
-    fsplit ! $ feq_l ! (λ image_size-counted.
-    let mesh-room : Room handle_row (length mesh-was) = rooms handle_row (length mesh-was) mesh 1 mesh-counted in
-    let image-room : Room u8 (length image-was) = rooms u8 (length image-was) image image_room image-counted in
-    let image_size-room : Room usize (length image_size-was) = rooms usize (length image_size-was) image_size 1 image_size-counted in
-    enter ! 𝓣.C 𝓣.Λ fn words Post $ alloc_all ! (λ l.
-    pass_all ! refl
-    (ptr_good mesh, ((tt, record { fits = are.1.0.1 }), (ptr_good image, ((tt, record { fits = are.1.1.1.0.1 }), (ptr_good image_size, tt))))) $
-    sets ! (of_opd ! (get ! refl)) refl (ptr_good mesh) $
-    nothing ! $ calls_from ! fm (‵ ftrue) _ _ (places (length mesh-was) mesh 1 16 mesh-counted tests.0 (lit< tt) (lit< tt) (lit< tt))
-    (and_then ! (get ! refl) (and_then ! (lit ! tt) (and_then ! (lit ! tt) (no_more !)))) (λ v. tells ! tt (length mesh-was) mesh v (λ mesh-at.
-    lands_as ! mesh-at.value refl (tt, (tt, (record { fits = mesh-room.0 }, tt))) $
-    nothing ! $ calls_from ! fm (‵ ftrue) _ _ (places (length image-was) image image_room 1 image-counted tests.1 (lit< tt) are.1.1.1.0.1 (lit< tt))
-    (and_then ! (get ! refl) (and_then ! (get ! refl) (and_then ! (lit ! tt) (no_more !)))) (λ v. tells ! tt (length image-was) image v (λ image-at.
-    lands_as ! image-at.value refl (tt, (tt, (record { fits = image-room.0 }, tt))) $
+    let c = clauses 𝓛 𝓜.mem 𝓡.returns in let find = finder 𝓛 𝓜 𝓡 (place_met 𝓤 𝓛 𝓜 𝓡 (code.calls-stlslice_c::places::place_of 𝓡.env wired)) in
+    export_proved 𝓛 ended c (λ κs. tt) 𝓜 𝓡 #self code.function (code.unfolded 𝓤 𝓛.H 𝓜 𝓡 wired) (λ z are.
+    let mesh = z.0.3.0 in let k = z.0.3.1.0 in let image = z.0.3.1.1.0 in let image_room = z.0.3.1.1.1.0 in let image_size = z.0.3.1.1.1.1.0 in
+    let loan = z.1.0 in let mesh-was = z.1.1 in let image-was = z.1.2 in let image_size-was = z.1.3 in
+    let ps : List (Passed 𝓛) = to_read loan mesh mesh-was ∷ number w32 k are.1.0.1 ∷ filled u8 image image_room image-was
+    ∷ number w64 image_room are.1.1.1.0.1 ∷ filled usize image_size 1 image_size-was ∷ [] in
+    begins ! ps (Testable mesh × Testable image × Testable image_size) (id⊢ 𝓤 _) (λ tests counts.
+    enters ! _ _ _ (words ps) _ (told ps z.0.4 are tt) $ alloc_all ! (λ l. pass_all ! refl (typed ps (locals_of code.function l) refl) $
+    sets ! (of_opd ! (get ! refl)) refl (ptr_good mesh) $ finds_one ! find handle_row mesh mesh-was counts.0 tests.0 tt tt refl refl refl (λ mesh-at.
+    finds_many ! find u8 image image_room image-was counts.1.0 tests.1 are.1.1.1.0.1 tt tt refl refl refl refl (λ image-at.
     sets ! (of_opd ! (get ! refl)) refl (ptr_good image_size) $
-    nothing ! $ calls_from ! fm (‵ ftrue) _ _ (places (length image_size-was) image_size 1 8 image_size-counted tests.2 (lit< tt) (lit< tt) (lit< tt))
-    (and_then ! (get ! refl) (and_then ! (lit ! tt) (and_then ! (lit ! tt) (no_more !)))) (λ v. tells ! tt (length image_size-was) image_size v
-    (λ image_size-at.
-    lands_as ! image_size-at.value refl (tt, (tt, (record { fits = image_size-room.0 }, tt))) $
-    sets ! (of_opd ! (get_in ! (fld ! refl (stop !)) (sub ! 0 refl (whole !)))) refl (tt, tt) $
-    sets ! (agg ! (and_then ! (get ! refl) (and_then ! (get_in ! (fld ! refl (stop !)) (sub ! 1 refl (whole !))) (no_more !)))) refl
-    (tt, (tt, (record { fits = mesh-room.0 }, tt))) $
-    sets ! (agg ! (and_then ! (get_in ! (fld ! refl (stop !)) (sub ! 0 refl (whole !)))
-    (and_then ! (get_in ! (fld ! refl (stop !)) (sub ! 1 refl (whole !))) (no_more !)))) refl
-    (tt, (tt, (record { fits = image-room.0 }, tt))) $
-    sets ! (of_opd ! (get_in ! (fld ! refl (stop !)) (sub ! 0 refl (whole !)))) refl (tt, tt) $
-    sets ! (agg ! (and_then ! (get ! refl) (and_then ! (get_in ! (fld ! refl (stop !)) (sub ! 1 refl (whole !))) (no_more !)))) refl
-    (tt, (tt, (record { fits = image_size-room.0 }, tt))) $
-    lends ! tt usize image_size image_size-was image_size-at image_size-room (λ image_size-α image_size-γ.
-    move ! (3 ∷ []) $
-    lends ! tt u8 image image-was image-at image-room (λ image-α image-γ.
-    move ! (6 ∷ 7 ∷ []) $
-    reads ! handle_row handle_laws.shr_laws mesh-loan.0 mesh mesh-was mesh-at mesh-room $
-    let mesh-lent : Bor (List handle_row.Denot) =
-    record { ref_ptr = (mesh-at.block, mesh-at.offset); now = mesh-was } in
-    let mesh-slice : List Val = slice_val (mesh-at.block, mesh-at.offset) (length mesh-was) ∷ [] in
-    let image-lent : MutBor (List ℕ) =
-    record { ref_ptr = (image-at.block, image-at.offset); ghost_name = image-γ; now = image-was } in
-    let image-slice : List Val = slice_val (image-at.block, image-at.offset) (length image-was) ∷ [] in
-    let image_size-lent : MutBor (List ℕ) =
-    record { ref_ptr = (image_size-at.block, image_size-at.offset); ghost_name = image_size-γ; now = image_size-was } in
-    let image_size-slice : List Val = slice_val (image_size-at.block, image_size-at.offset) (length image_size-was) ∷ [] in
-    let y : asks.Ghost = (
-      (
-        (mesh-loan.0, (image-α ∷ [], (image_size-α ∷ [], tt))),
-        (mesh-loan.1, (full_share, (full_share, tt))),
-        tt,
-        (mesh-lent, (k, (image-lent, (image_room, (image_size-lent, tt))))),
-        (mesh-slice, (vint w32 k ∷ [], (image-slice, (vint w64 image_room ∷ [], (image_size-slice, tt))))),
-      ),
-      tt,
-    ) in
-    nothing ! $
-    move ! (7 ∷ 0 ∷ []) $ fjoin ! $
-    owned ! usize (Is usize) (uint_Makes 𝓛 w64) image_room _ (refl, are.1.1.1.0.1) $ fjoin ! $
-    move ! (4 ∷ 0 ∷ []) $ fjoin ! $
-    owned ! u32 (Is u32) (uint_Makes 𝓛 w32) k _ (refl, are.1.0.1) $ fjoin ! $
-    move ! (1 ∷ 0 ∷ []) $ fjoin ! $
-    nothing ! $
-    move ! (7 ∷ 0 ∷ []) $ join ! $
-    move ! (5 ∷ 0 ∷ []) $ join ! $
-    move ! (3 ∷ 0 ∷ []) $ join ! $
-    join ! $ nothing ! $ move ! (1 ∷ 0 ∷ []) $ join ! $ use1 𝓛 (raw (asks.pre y)) (id⊢ 𝓤 (asks.pre y)) $
-    calls_at ! fm asks answers y (and_then ! (get ! refl) (and_then ! (get ! refl) (and_then ! (get ! refl) (and_then ! (get ! refl) (and_then !
-    (get ! refl) (no_more !)))))) (λ w.
-    let Tokens : Item 𝓤 = ‵ (flft mesh-loan.0 mesh-loan.1) ⊛ ‵ (flft (image-α ∷ []) full_share) ⊛ ‵ (flft (image_size-α ∷ []) full_share) ⊛ ‵ ftrue in
-    let Ws : Type 0 = Unit {0} × (Unit {0} × (List ℕ × (Unit {0} × (List ℕ × (Unit {0}))))) in
-    use1 𝓛 (later (some (λ (r : ℕ). (Tokens ⊛ ‵ (u32.own_val r (w ∷ []))) ⊛ some (λ (ws : Ws).
-    ‵ (lasts callee.ended y.0.0 y.0.3 ws) ⊛ raw (fact 𝓤 (IsMaskRefused mesh-was k image-was ws.1.1.0 image_room image_size-was ws.1.1.1.1.0 r))
-    ⊛ raw (fact 𝓤 (IsMaskAnswered mesh-was k image-was ws.1.1.0 image_room image_size-was ws.1.1.1.1.0 r)))))) (id⊢ 𝓤 _) $
-    await ! tt $ pick ! (λ r. split ! $ split ! $
-    split ! $ move ! (1 ∷ []) $
-    split ! $ move ! (1 ∷ []) $
-    split ! $ move ! (1 ∷ []) $
-    move ! (5 ∷ []) $ pick ! (λ ws. split ! $ move ! (1 ∷ []) $
-    split ! $ heard ! _ (λ refused. heard ! _ (λ answered.
-    fsplit ! $ move ! (7 ∷ 5 ∷ []) $
-    read_back ! handle_row mesh-loan mesh 1 mesh-was mesh-counted $
-    move ! (2 ∷ []) $ fsplit ! $
-    move ! (1 ∷ []) $ fsplit ! $ fsplit ! $ fsplit ! $ move ! (9 ∷ 11 ∷ 0 ∷ []) $
-    comes ! tt u8 image image_room (length image-was) ws.1.1.0 image-at image-counted $
-    move ! (3 ∷ []) $ fsplit ! $
-    move ! (1 ∷ []) $ fsplit ! $ fsplit ! $ fsplit ! $ move ! (12 ∷ 14 ∷ 0 ∷ []) $
-    comes ! tt usize image_size 1 (length image_size-was) ws.1.1.1.1.0 image_size-at image_size-counted $
-    move ! (12 ∷ []) $ peeks ! u32 (Is u32) (shows 𝓛 u32) r (w ∷ []) (λ ok. lands_as ! refl refl ((uint_Lawful 𝓛 w32).typed r _ ok).0 $
-    returns ! (look_at ! 0 refl) $ free_all ! refl $ keep ! (10 ∷ 6 ∷ 1 ∷ 0 ∷ []) $
-    use0 𝓛 (raw (fact 𝓤 (IsMaskCall mesh-was k image-was ws.1.1.0 image_room image_size-was ws.1.1.1.1.0 r)))
-    (fact_i 𝓤 _ (emp 𝓤) (refused, answered)) $
-    move ! (3 ∷ 0 ∷ []) $ join ! $
-    move ! (2 ∷ 0 ∷ []) $ join ! $
-    move ! (1 ∷ 0 ∷ []) $ join ! $
-    let Left : List ℕ × List ℕ → Item 𝓤 = λ left.
-    ‵ (lent_to_read handle_row mesh-loan mesh 1 mesh-was)
-    ⊛ ‵ (lent u8 image image_room left.0)
-    ⊛ ‵ (lent usize image_size 1 left.1)
-    ⊛ raw (fact 𝓤 (IsMaskCall mesh-was k image-was left.0 image_room image_size-was left.1 r)) in
-    use1 𝓛 (some Left) (ex_i 𝓤 (λ left. mean 𝓛 (Left left)) (ws.1.1.0, ws.1.1.1.1.0)) $
-    nothing ! $ nothing ! $ fjoin ! $ nothing ! $ fjoin ! $ nothing ! $ fjoin ! $ nothing ! $ fjoin ! $ nothing ! $ fjoin ! $ nothing ! $ move ! (0
-    ∷ 1 ∷ 3 ∷ 2 ∷ []) $
-    by ! (leaves 𝓛 ended hs c z w r (tt, (tt, (tt, (tt, (tt, tt))))) (tt, (tt, (tt, (tt, (tt, tt))))))))))))))))))))))))))
+    finds_one ! find usize image_size image_size-was counts.1.1.0 tests.2 tt tt refl refl refl (λ image_size-at.
+    slices ! mesh-at refl tt tt refl $ slices_bytes ! image-at refl tt refl $ slices ! image_size-at refl tt tt refl $
+    let at : Places ps = (mesh-at, (image-at, (image_size-at, tt))) in
+    answers_with ! find.framed (triple_of 𝓛 callee.signature (callee.spec 𝓛 𝓜.mem 𝓡.returns))
+    (callee_met 𝓤 𝓛 𝓜 𝓡 (code.calls-stlslice_c::given::mask 𝓡.env wired)) ps at
+    (λ os. ((lifetimes_of ps os, shares_of ps, tt, values_of ps at os, machine_values ps at os), tt)) (λ os. id⊢ 𝓤 _)
+    (λ r ws. IsMaskRefused mesh-was k image-was ws.1.1.0 image_room image_size-was ws.1.1.1.1.0 r)
+    (λ r ws. IsMaskAnswered mesh-was k image-was ws.1.1.0 image_room image_size-was ws.1.1.1.1.0 r)
+    (λ os w. id⊢ 𝓤 _) (λ os. (refl, tt, refl)) refl (λ A B w. refl) (λ w r ws is. free_all ! refl $ keep ! (0 ∷ 1 ∷ []) $
+    let Left : List ℕ × List ℕ → SProp 𝓤 = λ left.
+    over 𝓛 (lefts ps (tt, (tt, (left.0, (tt, (left.1, tt)))))) (fact 𝓤 (IsMaskCall mesh-was k image-was left.0 image_room image_size-was left.1 r)) in
+    by ! (walk_ends 𝓛 ended c z w r (lefts ps ws) is (id⊢ 𝓤 _) (ex_i 𝓤 Left (ws.1.1.0, ws.1.1.1.1.0))))))))))
