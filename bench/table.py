@@ -198,7 +198,7 @@ def commit():
     def told(*words):
         return subprocess.run(["git", "-C", ROOT, *words], stdout=subprocess.PIPE, text=True).stdout.strip()
 
-    changes = told("status", "--porcelain", "--", ".", ":!docs/benchmarks.md")
+    changes = told("status", "--porcelain", "--untracked-files=no", "--", ".", ":!docs/benchmarks.md")
     return (told("rev-parse", "--short", "HEAD") or "unknown") + "+" * bool(changes)
 
 

@@ -1,4 +1,4 @@
-"""make docs: the reference, of what tools/sources.py reads, has each public item and each definition, no link leads nowhere, and
+"""make docs: the reference has each public item and each definition that tools/sources.py reads, no link leads nowhere, and
 nothing in it comes from a network. What has to be believed of `run` holds the definitions that its promise is about, and counts
 its lines rightly. Its search box finds a definition, which is tried if Chromium is there."""
 

@@ -181,7 +181,8 @@ fn if_negative(excess: i128, n: i128) -> i128
     n & (excess >> SIGN_BIT)
 }
 
-/// The DDA of the next row, if more rows are left than this one. After the last row it stays as it is, which saves a step.
+/// The DDA of the next row, if more rows are left than this one: `left` counts this row too. After the last row it stays as it
+/// is, which saves a step.
 #[inline(always)]
 pub(crate) fn followed(d: &Dda, left: u32) -> Dda
     requires dda { IsDda d.now }

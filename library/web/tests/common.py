@@ -23,7 +23,7 @@ def stop(why):
 
 
 def same(found, wanted, what):
-    """Ends the script if the two differ. The one of tests/common.py fails a test of `unittest`, and the script goes on."""
+    """Ends the script if the two differ. `same` of tests/common.py fails one test, and the script goes on."""
     if found != wanted:
         stop(f"{what}: found {str(found)[:600]!r} and wanted {str(wanted)[:600]!r}")
 

@@ -33,7 +33,7 @@ use denote.Triple.Walked.{Stays, stay_dropped, AllGo, Goes-Silent, fits_of, has_
 use Rattle.std.proofs.raw_atomic.Walks.{proved_at, leaves as leaves_all}
 use Rattle.core.proofs.alloc.Calls.{handle_tells}
 use Rattle.stlslice_c.proofs.lemmas.Lending.{joined, ptr_good}
-use Rattle.stlslice_c.proofs.lemmas.Passing.{Passed, handle, number, to_read, shared, filled, Counts, tight, loose, arrays, untie, counts_of, over, closed}
+use Rattle.stlslice_c.proofs.lemmas.Passing.{Passed, allocator, number, to_read, shared, filled, Counts, tight, loose, arrays, untie, counts_of, over, closed}
 use Rattle.stlslice_c.proofs.lemmas.Values.{Z, zal}
 
 -- ---- nothing is had of an export's parameters when it returns, and nothing is said of them
@@ -134,7 +134,7 @@ none_left e = subst empty e tt
 module _ {M : Type 1} {𝓤 : Ura M} {𝓛 : Logic 𝓤} where
   abbrev pub words : List (Passed 𝓛) → List Val
   words [] = []
-  words (handle a h fits ∷ ps) = h ∷ words ps
+  words (allocator a h fits ∷ ps) = h ∷ words ps
   words (number w x low ∷ ps) = vint w x ∷ words ps
   words (to_read loan p xs ∷ ps) = ptr_val p ∷ words ps
   words (shared R copied q p n xs ∷ ps) = ptr_val p ∷ words ps
@@ -143,7 +143,7 @@ module _ {M : Type 1} {𝓤 : Ura M} {𝓛 : Logic 𝓤} where
   -- the types of the parameters' locals
   abbrev local_types : List (Passed 𝓛) → List Ty
   local_types [] = []
-  local_types (handle a h fits ∷ ps) = layout Z ∷ local_types ps
+  local_types (allocator a h fits ∷ ps) = layout Z ∷ local_types ps
   local_types (number w x low ∷ ps) = ty_int w ∷ local_types ps
   local_types (to_read loan p xs ∷ ps) = ty_ptr ∷ local_types ps
   local_types (shared R copied q p n xs ∷ ps) = ty_ptr ∷ local_types ps
@@ -158,12 +158,12 @@ module _ {M : Type 1} {𝓤 : Ura M} {𝓛 : Logic 𝓤} where
   -- each is of the type of its local
   pub typed : (ps : List (Passed 𝓛)) (E : List (Ty × ℕ)) → firsts ps E ≡ local_types ps → AllTyped E (words ps)
   typed [] E h = tt
-  typed (handle a h fits ∷ ps) [] e = absurd (none_left e)
+  typed (allocator a h fits ∷ ps) [] e = absurd (none_left e)
   typed (number w x low ∷ ps) [] e = absurd (none_left e)
   typed (to_read loan p xs ∷ ps) [] e = absurd (none_left e)
   typed (shared R copied q p n xs ∷ ps) [] e = absurd (none_left e)
   typed (filled R p n xs ∷ ps) [] e = absurd (none_left e)
-  typed (handle a h fits ∷ ps) (l ∷ E) e = (subst (λ (τ : Ty). T (has_ty τ h) × WT h) (sym (ap first e)) fits, typed ps E (ap others e))
+  typed (allocator a h fits ∷ ps) (l ∷ E) e = (subst (λ (τ : Ty). T (has_ty τ h) × WT h) (sym (ap first e)) fits, typed ps E (ap others e))
   typed (number w x low ∷ ps) (l ∷ E) e = (subst (λ (τ : Ty). T (has_ty τ (vint w x)) × WT (vint w x)) (sym (ap first e)) (((uint_Lawful 𝓛 w).typed x (vint w x ∷ []) (refl, low)).0), typed ps E (ap others e))
   typed (to_read loan p xs ∷ ps) (l ∷ E) e = (subst (λ (τ : Ty). T (has_ty τ (ptr_val p)) × WT (ptr_val p)) (sym (ap first e)) (ptr_good p), typed ps E (ap others e))
   typed (shared R copied q p n xs ∷ ps) (l ∷ E) e = (subst (λ (τ : Ty). T (has_ty τ (ptr_val p)) × WT (ptr_val p)) (sym (ap first e)) (ptr_good p), typed ps E (ap others e))
@@ -172,7 +172,7 @@ module _ {M : Type 1} {𝓤 : Ura M} {𝓛 : Logic 𝓤} where
   -- the types of the parameters, and their values
   abbrev params : List (Passed 𝓛) → List RattleType
   params [] = []
-  params (handle a h fits ∷ ps) = Z ∷ params ps
+  params (allocator a h fits ∷ ps) = Z ∷ params ps
   params (number w x low ∷ ps) = UInt w ∷ params ps
   params (to_read loan p xs ∷ ps) = RawPtr ∷ params ps
   params (shared R copied q p n xs ∷ ps) = RawPtr ∷ params ps
@@ -180,29 +180,29 @@ module _ {M : Type 1} {𝓤 : Ura M} {𝓛 : Logic 𝓤} where
 
   abbrev values : (ps : List (Passed 𝓛)) → Denots (params ps)
   values [] = tt
-  values (handle a h fits ∷ ps) = (a, values ps)
+  values (allocator a h fits ∷ ps) = (a, values ps)
   values (number w x low ∷ ps) = (x, values ps)
   values (to_read loan p xs ∷ ps) = (p, values ps)
   values (shared R copied q p n xs ∷ ps) = (p, values ps)
   values (filled R p n xs ∷ ps) = (p, values ps)
 
   -- the allocator's machine value is h
-  abbrev Handles : (ps : List (Passed 𝓛)) → Valss (params ps) → Type 0
-  Handles [] vss = Unit {0}
-  Handles (handle a h fits ∷ ps) vss = (vss.0 ≡ h ∷ []) × Handles ps vss.1
-  Handles (number w x low ∷ ps) vss = Handles ps vss.1
-  Handles (to_read loan p xs ∷ ps) vss = Handles ps vss.1
-  Handles (shared R copied q p n xs ∷ ps) vss = Handles ps vss.1
-  Handles (filled R p n xs ∷ ps) vss = Handles ps vss.1
+  abbrev Allocators : (ps : List (Passed 𝓛)) → Valss (params ps) → Type 0
+  Allocators [] vss = Unit {0}
+  Allocators (allocator a h fits ∷ ps) vss = (vss.0 ≡ h ∷ []) × Allocators ps vss.1
+  Allocators (number w x low ∷ ps) vss = Allocators ps vss.1
+  Allocators (to_read loan p xs ∷ ps) vss = Allocators ps vss.1
+  Allocators (shared R copied q p n xs ∷ ps) vss = Allocators ps vss.1
+  Allocators (filled R p n xs ∷ ps) vss = Allocators ps vss.1
 
   -- the machine values are those of the parameters
-  pub told : (ps : List (Passed 𝓛)) (vss : Valss (params ps)) → Are (params ps) (Ises (params ps)) (values ps) vss → Handles ps vss → flat (params ps) vss ≡ words ps
-  told [] vss are handles = refl
-  told (handle a h fits ∷ ps) vss are handles = joined handles.0 (told ps vss.1 are.1 handles.1)
-  told (number w x low ∷ ps) vss are handles = joined are.0.0 (told ps vss.1 are.1 handles)
-  told (to_read loan p xs ∷ ps) vss are handles = joined are.0 (told ps vss.1 are.1 handles)
-  told (shared R copied q p n xs ∷ ps) vss are handles = joined are.0 (told ps vss.1 are.1 handles)
-  told (filled R p n xs ∷ ps) vss are handles = joined are.0 (told ps vss.1 are.1 handles)
+  pub told : (ps : List (Passed 𝓛)) (vss : Valss (params ps)) → Are (params ps) (Ises (params ps)) (values ps) vss → Allocators ps vss → flat (params ps) vss ≡ words ps
+  told [] vss are allocators = refl
+  told (allocator a h fits ∷ ps) vss are allocators = joined allocators.0 (told ps vss.1 are.1 allocators.1)
+  told (number w x low ∷ ps) vss are allocators = joined are.0.0 (told ps vss.1 are.1 allocators)
+  told (to_read loan p xs ∷ ps) vss are allocators = joined are.0 (told ps vss.1 are.1 allocators)
+  told (shared R copied q p n xs ∷ ps) vss are allocators = joined are.0 (told ps vss.1 are.1 allocators)
+  told (filled R p n xs ∷ ps) vss are allocators = joined are.0 (told ps vss.1 are.1 allocators)
 
 module _ {M : Type 1} {𝓤 : Ura M} {𝓛 : Logic 𝓤} {K : Type 0} {Γ : List (Item 𝓤)} where
   -- a function is entered with values that are known to be others
@@ -220,7 +220,7 @@ module _ {M : Type 1} {𝓤 : Ura M} {𝓛 : Logic 𝓤} {K : Type 0} {Γ : List
 module _ {M : Type 1} {𝓤 : Ura M} {𝓛 : Logic 𝓤} {K : Type 0} {Γ : List (Item 𝓤)} {G : Goal 𝓤 𝓛.H} where
   -- the same of an export that is given the allocator first
   pub begins_with : K → {P : Fml} {R : SProp 𝓤} (a : Z.Denot) (vs : List Val) (ps : List (Passed 𝓛)) (φ : Type 0) → ent 𝓤 R (sep 𝓤 (fact 𝓤 φ) (sem 𝓛 (tight (arrays ps))))
-      → ((v : Val) → vs ≡ v ∷ [] → (fits : T (has_ty (layout Z) v) × WT v) → φ → Counts ps → Seq K 𝓛 (‵ (loose (arrays (handle a v fits ∷ ps))) ∷ Γ) G) → Seq K 𝓛 (‵ (fsep (Z.own_val a vs) P) ∷ raw R ∷ Γ) G
+      → ((v : Val) → vs ≡ v ∷ [] → (fits : T (has_ty (layout Z) v) × WT v) → φ → Counts ps → Seq K 𝓛 (‵ (loose (arrays (allocator a v fits ∷ ps))) ∷ Γ) G) → Seq K 𝓛 (‵ (fsep (Z.own_val a vs) P) ∷ raw R ∷ Γ) G
   begins_with t a vs ps φ h k = fsplit t $ move t (1 ∷ 2 ∷ []) $ begins t ps φ h (λ tests counts. move t (1 ∷ []) $ handle_tells zal t a vs (λ v is fits. fjoin t $ k v is fits tests counts))
 
 -- a list without its first entry

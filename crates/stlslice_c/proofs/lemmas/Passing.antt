@@ -38,7 +38,7 @@ use Rattle.stlslice_c.proofs.lemmas.Lending.{IsPlaced, lends, comes, shares_out,
 
 -- a parameter of an export
 pub data Passed {M : Type 1} {𝓤 : Ura M} (𝓛 : Logic 𝓤) : Type 2 where
-  handle : Z.Denot → (h : Val) → T (has_ty (layout Z) h) × WT h → Passed 𝓛  -- the allocator
+  allocator : Z.Denot → (h : Val) → T (has_ty (layout Z) h) × WT h → Passed 𝓛  -- the allocator
   number : (w : Width) (x : ℕ) → x < 2 ^ bits w → Passed 𝓛
   to_read : Lft × Share → Ptr → List handle_row.Denot → Passed 𝓛  -- a mesh that the call reads
   shared : (R : RattleType) → Copied 𝓛 R → Share → Ptr → ℕ → List R.Denot → Passed 𝓛  -- an array of which it has a share
@@ -76,7 +76,7 @@ module _ {M : Type 1} {𝓤 : Ura M} {𝓛 : Logic 𝓤} where
   -- what is had of each parameter before the call
   abbrev pub arrays : List (Passed 𝓛) → List Fml
   arrays [] = []
-  arrays (handle a h fits ∷ ps) = Z.own_val a (h ∷ []) ∷ arrays ps
+  arrays (allocator a h fits ∷ ps) = Z.own_val a (h ∷ []) ∷ arrays ps
   arrays (number w x low ∷ ps) = arrays ps
   arrays (to_read loan p xs ∷ ps) = lent_to_read handle_row loan p 1 xs ∷ arrays ps
   arrays (shared R copied q p n xs ∷ ps) = lent_shared R q p n xs ∷ arrays ps
@@ -85,7 +85,7 @@ module _ {M : Type 1} {𝓤 : Ura M} {𝓛 : Logic 𝓤} where
   -- that each array has as many values as C tells
   abbrev pub Counts : List (Passed 𝓛) → Type 0
   Counts [] = Unit {0}
-  Counts (handle a h fits ∷ ps) = Counts ps
+  Counts (allocator a h fits ∷ ps) = Counts ps
   Counts (number w x low ∷ ps) = Counts ps
   Counts (to_read loan p xs ∷ ps) = (length xs ≡ count_at (mem handle_row).size p 1) × Counts ps
   Counts (shared R copied q p n xs ∷ ps) = (length xs ≡ count_at (mem R).size p n) × Counts ps
@@ -94,16 +94,16 @@ module _ {M : Type 1} {𝓤 : Ura M} {𝓛 : Logic 𝓤} where
   -- where each array lies
   abbrev pub Places : List (Passed 𝓛) → Type 0
   Places [] = Unit {0}
-  Places (handle a h fits ∷ ps) = Places ps
+  Places (allocator a h fits ∷ ps) = Places ps
   Places (number w x low ∷ ps) = Places ps
   Places (to_read loan p xs ∷ ps) = Found handle_row p 1 xs × Places ps
   Places (shared R copied q p n xs ∷ ps) = Found R p n xs × Places ps
   Places (filled R p n xs ∷ ps) = Found R p n xs × Places ps
 
-  -- the new lifetime_count and ghost names
+  -- the new lifetimes and ghost names
   abbrev pub Names : List (Passed 𝓛) → Type 0
   Names [] = Unit {0}
-  Names (handle a h fits ∷ ps) = Names ps
+  Names (allocator a h fits ∷ ps) = Names ps
   Names (number w x low ∷ ps) = Names ps
   Names (to_read loan p xs ∷ ps) = Names ps
   Names (shared R copied q p n xs ∷ ps) = ℕ × Names ps
@@ -112,7 +112,7 @@ module _ {M : Type 1} {𝓤 : Ura M} {𝓛 : Logic 𝓤} where
   -- what the call leaves of each parameter
   abbrev pub News : List (Passed 𝓛) → Type 0
   News [] = Unit {0}
-  News (handle a h fits ∷ ps) = Last (Z.exit yes) a × News ps
+  News (allocator a h fits ∷ ps) = Last (Z.exit yes) a × News ps
   News (number w x low ∷ ps) = Unit {0} × News ps
   News (to_read loan p xs ∷ ps) = Unit {0} × News ps
   News (shared R copied q p n xs ∷ ps) = Unit {0} × News ps
@@ -121,7 +121,7 @@ module _ {M : Type 1} {𝓤 : Ura M} {𝓛 : Logic 𝓤} where
   -- the lifetimes that the call within is given: one for each array, with a share of each, and their tokens
   abbrev pub lifetime_count : List (Passed 𝓛) → ℕ
   lifetime_count [] = 0
-  lifetime_count (handle a h fits ∷ ps) = lifetime_count ps
+  lifetime_count (allocator a h fits ∷ ps) = lifetime_count ps
   lifetime_count (number w x low ∷ ps) = lifetime_count ps
   lifetime_count (to_read loan p xs ∷ ps) = suc (lifetime_count ps)
   lifetime_count (shared R copied q p n xs ∷ ps) = suc (lifetime_count ps)
@@ -129,7 +129,7 @@ module _ {M : Type 1} {𝓤 : Ura M} {𝓛 : Logic 𝓤} where
 
   abbrev pub lifetimes_of : (ps : List (Passed 𝓛)) → Names ps → Lfts (lifetime_count ps)
   lifetimes_of [] os = tt
-  lifetimes_of (handle a h fits ∷ ps) os = lifetimes_of ps os
+  lifetimes_of (allocator a h fits ∷ ps) os = lifetimes_of ps os
   lifetimes_of (number w x low ∷ ps) os = lifetimes_of ps os
   lifetimes_of (to_read loan p xs ∷ ps) os = (loan.0, lifetimes_of ps os)
   lifetimes_of (shared R copied q p n xs ∷ ps) os = (os.0 ∷ [], lifetimes_of ps os.1)
@@ -137,7 +137,7 @@ module _ {M : Type 1} {𝓤 : Ura M} {𝓛 : Logic 𝓤} where
 
   abbrev pub shares_of : (ps : List (Passed 𝓛)) → Shares (lifetime_count ps)
   shares_of [] = tt
-  shares_of (handle a h fits ∷ ps) = shares_of ps
+  shares_of (allocator a h fits ∷ ps) = shares_of ps
   shares_of (number w x low ∷ ps) = shares_of ps
   shares_of (to_read loan p xs ∷ ps) = (loan.1, shares_of ps)
   shares_of (shared R copied q p n xs ∷ ps) = (full_share, shares_of ps)
@@ -145,7 +145,7 @@ module _ {M : Type 1} {𝓤 : Ura M} {𝓛 : Logic 𝓤} where
 
   abbrev pub tokens : (ps : List (Passed 𝓛)) → Names ps → Fml
   tokens [] os = ftrue
-  tokens (handle a h fits ∷ ps) os = tokens ps os
+  tokens (allocator a h fits ∷ ps) os = tokens ps os
   tokens (number w x low ∷ ps) os = tokens ps os
   tokens (to_read loan p xs ∷ ps) os = fsep (flft loan.0 loan.1) (tokens ps os)
   tokens (shared R copied q p n xs ∷ ps) os = fsep (flft (os.0 ∷ []) full_share) (tokens ps os.1)
@@ -154,7 +154,7 @@ module _ {M : Type 1} {𝓤 : Ura M} {𝓛 : Logic 𝓤} where
   -- the types of its parameters, their values and machine values, and what they own
   abbrev pub rows : (ps : List (Passed 𝓛)) → Names ps → List RattleType
   rows [] os = []
-  rows (handle a h fits ∷ ps) os = Z ∷ rows ps os
+  rows (allocator a h fits ∷ ps) os = Z ∷ rows ps os
   rows (number w x low ∷ ps) os = UInt w ∷ rows ps os
   rows (to_read loan p xs ∷ ps) os = ShrSlice (named 0) loan.0 handle_row ∷ rows ps os
   rows (shared R copied q p n xs ∷ ps) os = ShrSlice (named 0) (os.0 ∷ []) R ∷ rows ps os.1
@@ -162,7 +162,7 @@ module _ {M : Type 1} {𝓤 : Ura M} {𝓛 : Logic 𝓤} where
 
   abbrev pub values_of : (ps : List (Passed 𝓛)) → Places ps → (os : Names ps) → Denots (rows ps os)
   values_of [] at os = tt
-  values_of (handle a h fits ∷ ps) at os = (a, values_of ps at os)
+  values_of (allocator a h fits ∷ ps) at os = (a, values_of ps at os)
   values_of (number w x low ∷ ps) at os = (x, values_of ps at os)
   values_of (to_read loan p xs ∷ ps) at os = (shared_at at.0, values_of ps at.1 os)
   values_of (shared R copied q p n xs ∷ ps) at os = (shared_at at.0, values_of ps at.1 os.1)
@@ -170,7 +170,7 @@ module _ {M : Type 1} {𝓤 : Ura M} {𝓛 : Logic 𝓤} where
 
   abbrev pub machine_values : (ps : List (Passed 𝓛)) → Places ps → (os : Names ps) → Valss (rows ps os)
   machine_values [] at os = tt
-  machine_values (handle a h fits ∷ ps) at os = (h ∷ [], machine_values ps at os)
+  machine_values (allocator a h fits ∷ ps) at os = (h ∷ [], machine_values ps at os)
   machine_values (number w x low ∷ ps) at os = (vint w x ∷ [], machine_values ps at os)
   machine_values (to_read loan p xs ∷ ps) at os = (as_slice at.0 ∷ [], machine_values ps at.1 os)
   machine_values (shared R copied q p n xs ∷ ps) at os = (as_slice at.0 ∷ [], machine_values ps at.1 os.1)
@@ -182,7 +182,7 @@ module _ {M : Type 1} {𝓤 : Ura M} {𝓛 : Logic 𝓤} where
   -- what the export keeps during the call
   abbrev pub kept : (ps : List (Passed 𝓛)) → Places ps → Names ps → Fml
   kept [] at os = ftrue
-  kept (handle a h fits ∷ ps) at os = kept ps at os
+  kept (allocator a h fits ∷ ps) at os = kept ps at os
   kept (number w x low ∷ ps) at os = kept ps at os
   kept (to_read loan p xs ∷ ps) at os = fsep (seen_side_by_side handle_row loan.0 p xs) (kept ps at.1 os)
   kept (shared R copied q p n xs ∷ ps) at os =
@@ -192,7 +192,7 @@ module _ {M : Type 1} {𝓤 : Ura M} {𝓛 : Logic 𝓤} where
   -- what its contract says of them at its end
   abbrev pub lasts_all : (ps : List (Passed 𝓛)) → Places ps → Names ps → News ps → Fml
   lasts_all [] at os ws = ftrue
-  lasts_all (handle a h fits ∷ ps) at os ws = fsep (left (Z.exit yes) a ws.0) (lasts_all ps at os ws.1)
+  lasts_all (allocator a h fits ∷ ps) at os ws = fsep (left (Z.exit yes) a ws.0) (lasts_all ps at os ws.1)
   lasts_all (number w x low ∷ ps) at os ws = fsep ftrue (lasts_all ps at os ws.1)
   lasts_all (to_read loan p xs ∷ ps) at os ws = fsep ftrue (lasts_all ps at.1 os ws.1)
   lasts_all (shared R copied q p n xs ∷ ps) at os ws = fsep ftrue (lasts_all ps at.1 os.1 ws.1)
@@ -203,7 +203,7 @@ module _ {M : Type 1} {𝓤 : Ura M} {𝓛 : Logic 𝓤} where
   -- the arrays once the call has come back
   abbrev pub lefts : (ps : List (Passed 𝓛)) → News ps → List Fml
   lefts [] ws = []
-  lefts (handle a h fits ∷ ps) ws = lefts ps ws.1
+  lefts (allocator a h fits ∷ ps) ws = lefts ps ws.1
   lefts (number w x low ∷ ps) ws = lefts ps ws.1
   lefts (to_read loan p xs ∷ ps) ws = lent_to_read handle_row loan p 1 xs ∷ lefts ps ws.1
   lefts (shared R copied q p n xs ∷ ps) ws = lent_shared R q p n xs ∷ lefts ps ws.1
@@ -245,7 +245,7 @@ module _ {M : Type 1} {𝓤 : Ura M} {𝓛 : Logic 𝓤} {K : Type 0} {G : Goal 
   -- how many values there are of each array
   pub counts_of : K → (ps : List (Passed 𝓛)) {Γ : List (Item 𝓤)} → (Counts ps → Seq K 𝓛 (‵ (loose (arrays ps)) ∷ Γ) G) → Seq K 𝓛 (‵ (loose (arrays ps)) ∷ Γ) G
   counts_of t [] k = k tt
-  counts_of t (handle a h fits ∷ ps) k = fsplit t $ move t (1 ∷ []) $ counts_of t ps (λ cs. move t (1 ∷ 0 ∷ []) $ fjoin t $ k cs)
+  counts_of t (allocator a h fits ∷ ps) k = fsplit t $ move t (1 ∷ []) $ counts_of t ps (λ cs. move t (1 ∷ 0 ∷ []) $ fjoin t $ k cs)
   counts_of t (number w x low ∷ ps) k = counts_of t ps k
   counts_of t (to_read loan p xs ∷ ps) k = fsplit t $ fsplit t $ feq_l t (λ e. feq_i t ℕ _ _ e $ fjoin t $
       move t (1 ∷ []) $ counts_of t ps (λ cs. move t (1 ∷ 0 ∷ []) $ fjoin t $ k (e, cs)))
@@ -258,7 +258,7 @@ module _ {M : Type 1} {𝓤 : Ura M} {𝓛 : Logic 𝓤} {K : Type 0} {G : Goal 
   pub lends_all : K → Soaks G → (ps : List (Passed 𝓛)) (at : Places ps) {Γ : List (Item 𝓤)}
       → ((os : Names ps) → Seq K 𝓛 (‵ (owned_all ps at os) ∷ ‵ (tokens ps os) ∷ ‵ (kept ps at os) ∷ Γ) G) → Seq K 𝓛 (‵ (loose (arrays ps)) ∷ Γ) G
   lends_all t z [] at k = nothing t $ nothing t $ k tt
-  lends_all t z (handle a h fits ∷ ps) at k = fsplit t $ move t (1 ∷ []) $ lends_all t z ps at (λ os. move t (3 ∷ 0 ∷ []) $ fjoin t $ k os)
+  lends_all t z (allocator a h fits ∷ ps) at k = fsplit t $ move t (1 ∷ []) $ lends_all t z ps at (λ os. move t (3 ∷ 0 ∷ []) $ fjoin t $ k os)
   lends_all t z (number w x low ∷ ps) at k =
       lends_all t z ps at (λ os. owned t (UInt w) (Is (UInt w)) (uint_Makes 𝓛 w) x (vint w x ∷ []) (refl, low) $ fjoin t $ k os)
   lends_all t z (to_read loan p xs ∷ ps) at k =
@@ -275,7 +275,7 @@ module _ {M : Type 1} {𝓤 : Ura M} {𝓛 : Logic 𝓤} {K : Type 0} {G : Goal 
   pub comes_all : K → Soaks G → (ps : List (Passed 𝓛)) (at : Places ps) (os : Names ps) (ws : News ps) {Γ : List (Item 𝓤)}
       → Step K 𝓛 (‵ (loose (lefts ps ws)) ∷ Γ) G (‵ (tokens ps os) ∷ ‵ (kept ps at os) ∷ ‵ (lasts_all ps at os ws) ∷ Γ) G
   comes_all t z [] at os ws = step (λ s. drop t $ drop t $ s)
-  comes_all t z (handle a h fits ∷ ps) at os ws = step (λ s. move t (2 ∷ []) $ fsplit t $ drop t $ move t (1 ∷ 2 ∷ []) $ comes_all t z ps at os ws.1 $ s)
+  comes_all t z (allocator a h fits ∷ ps) at os ws = step (λ s. move t (2 ∷ []) $ fsplit t $ drop t $ move t (1 ∷ 2 ∷ []) $ comes_all t z ps at os ws.1 $ s)
   comes_all t z (number w x low ∷ ps) at os ws = step (λ s. move t (2 ∷ []) $ fsplit t $ drop t $ move t (1 ∷ 2 ∷ []) $ comes_all t z ps at os ws.1 $ s)
   comes_all t z (to_read loan p xs ∷ ps) at os ws = step (λ s. parts_of t $ comes_all t z ps at.1 os ws.1 $ move t (2 ∷ 1 ∷ []) $
       read_back t handle_row loan p 1 xs at.0.counted $ fjoin t $ move t (1 ∷ []) $ drop t $ s)
@@ -358,18 +358,18 @@ module _ {M : Type 1} {𝓤 : Ura M} {𝓛 : Logic 𝓤} {K : Type 0} {Γ : List
 
 module _ {M : Type 1} {𝓤 : Ura M} {𝓛 : Logic 𝓤} {K : Type 0} {Γ : List (Item 𝓤)} {E : Env 𝓤 𝓛.H} {C : Calls 𝓤 𝓛.H} {Λ : Loops 𝓤 𝓛.H} {f : Callee} {xs : List Operand} where
   -- the same of a call whose status the export returns, with the two facts of its contract
-  pub answers_with : K → FmC 𝓤 𝓛.H 𝓛.laws C → (c : Contract 𝓤) → Triple 𝓤 (C f) c → (ps : List (Passed 𝓛)) (found : Places ps) (y : Names ps → c.Ghost)
-      → ((os : Names ps) → ent 𝓤 (sep 𝓤 (sep 𝓤 (sem 𝓛 (tokens ps os)) (sem 𝓛 (owned_all ps found os))) (emp 𝓤)) (c.pre (y os)))
+  pub answers_with : K → FmC 𝓤 𝓛.H 𝓛.laws C → (c : Contract 𝓤) → Triple 𝓤 (C f) c → (ps : List (Passed 𝓛)) (at : Places ps) (y : Names ps → c.Ghost)
+      → ((os : Names ps) → ent 𝓤 (sep 𝓤 (sep 𝓤 (sem 𝓛 (tokens ps os)) (sem 𝓛 (owned_all ps at os))) (emp 𝓤)) (c.pre (y os)))
       → (Refused Answered : ℕ → News ps → Type 0)
-      → ((os : Names ps) (w : Val) → ent 𝓤 (c.post (y os) w) (𝓛.H.⇛ (mean 𝓛 (answered ps found os (UInt w32) (λ r ws. raw (fact 𝓤 (Refused r ws)) ⊛ raw (fact 𝓤 (Answered r ws))) w))))
-      → ((os : Names ps) → Hold 𝓛 E (raw (c.pre (y os)) ∷ ‵ (kept ps found os) ∷ Γ) xs (c.args (y os))) → (spot_of 𝓤 𝓛.H E 0).0 ≡ ty_int w32
+      → ((os : Names ps) (w : Val) → ent 𝓤 (c.post (y os) w) (𝓛.H.⇛ (mean 𝓛 (answered ps at os (UInt w32) (λ r ws. raw (fact 𝓤 (Refused r ws)) ⊛ raw (fact 𝓤 (Answered r ws))) w))))
+      → ((os : Names ps) → Hold 𝓛 E (raw (c.pre (y os)) ∷ ‵ (kept ps at os) ∷ Γ) xs (c.args (y os))) → (spot_of 𝓤 𝓛.H E 0).0 ≡ ty_int w32
       → ((A B : Item 𝓤) (w : Val) → Free 𝓛 E (A ∷ B ∷ Γ) w)
       → {Kf : Val → SProp 𝓤}
       → ((w : Val) (r : ℕ) (ws : News ps) → Refused r ws × Answered r ws
       → Seq K 𝓛 (set 𝓛 0 (result_in 𝓛 E w) (‵ ((UInt w32).own_val r (w ∷ [])) ∷ ‵ (loose (lefts ps ws)) ∷ Γ)) (frees E (prop (Kf w))))
       → Seq K 𝓛 (‵ (loose (arrays ps)) ∷ Γ) (runs C Λ E (seq (call f xs (place 0 [])) return) (at_ret E Kf))
-  answers_with t fm c calls ps found y goes Refused Answered told hold τ res k =
-      passes_on t fm c calls ps found y goes (UInt w32) (λ r ws. raw (fact 𝓤 (Refused r ws)) ⊛ raw (fact 𝓤 (Answered r ws))) told hold (λ w r ws.
+  answers_with t fm c calls ps at y goes Refused Answered told hold τ res k =
+      passes_on t fm c calls ps at y goes (UInt w32) (λ r ws. raw (fact 𝓤 (Refused r ws)) ⊛ raw (fact 𝓤 (Answered r ws))) told hold (λ w r ws.
       let Own : Item 𝓤 = ‵ ((UInt w32).own_val r (w ∷ [])) in let Rest : Item 𝓤 = ‵ (loose (lefts ps ws)) in
       split t $ heard t _ (λ refused. heard t _ (λ answers. peeks t (UInt w32) (Is (UInt w32)) (shows 𝓛 (UInt w32)) r (w ∷ []) (λ ok.
       land t (from t (stop t)) (init t (cell 0 (Own ∷ Rest ∷ Γ)) (ap (nth 𝓛 0) (res Own Rest w))

@@ -42,13 +42,13 @@ place_val {xs = xs} f = lowers.lowered (record { at = block_ptr f.at.block f.at.
 abbrev pub start : {R : RattleType} {p : Ptr} {n : ℕ} {xs : List R.Denot} → Found R p n xs → Val
 start f = vptr f.at.block f.at.offset
 
--- a table of calls, and what a call of `place_of` in it tells (`Lending.antt`'s `placed`)
+-- what is known of a table of calls: its frame, and what a call of `place_of` tells
 pub record Finder {M : Type 1} {𝓤 : Ura M} (𝓛 : Logic 𝓤) (C : Calls 𝓤 𝓛.H) : Type 2 where
   pub framed : FmC 𝓤 𝓛.H 𝓛.laws C
   pub places : (m : ℕ) (p : Ptr) (n size : ℕ) → m ≡ count_at size p n → Testable p → 0 < size → n < 2 ^ 64 → size < 2 ^ 64
       → ent 𝓤 (sem 𝓛 ftrue) (C #place (ptr_val p ∷ vint w64 n ∷ vint w64 size ∷ []) (λ v. 𝓛.H.⇛ (fact 𝓤 (IsPlaced m p v))))
 
--- both from the proof of `place_of`
+-- the frame is the table's; the rest is from the proof of `place_of`
 pub finder : {M : Type 1} {𝓤 : Ura M} (𝓛 : Logic 𝓤) (𝓜 : Model 𝓤 𝓛.H) (𝓡 : Running 𝓤 𝓛.H 𝓜)
     → Triple 𝓤 ((tables 𝓤 𝓛.H 𝓜 𝓡 𝓡.env).C #place) (triple_of 𝓛 placing.signature (placing.spec 𝓛 𝓜.mem 𝓡.returns)) → Finder 𝓛 (tables 𝓤 𝓛.H 𝓜 𝓡 𝓡.env).C
 finder {𝓤 = 𝓤} 𝓛 𝓜 𝓡 met =

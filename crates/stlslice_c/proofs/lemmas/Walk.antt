@@ -11,6 +11,6 @@ pub use denote.RawPtr.{Testable}
 pub use denote.Steps.{heard, only}
 pub use denote.Triple.Spec.{triple_of}
 pub use Rattle.stlslice_c.proofs.lemmas.Lending.{ptr_good}
-pub use Rattle.stlslice_c.proofs.lemmas.Passing.{Passed, handle, number, to_read, shared, filled, Places, passes_on, answers_with, lifetimes_of, shares_of, values_of, machine_values, over, lefts}
+pub use Rattle.stlslice_c.proofs.lemmas.Passing.{Passed, allocator, number, to_read, shared, filled, Places, passes_on, answers_with, lifetimes_of, shares_of, values_of, machine_values, over, lefts}
 pub use Rattle.stlslice_c.proofs.lemmas.Placing.{finder, finds_one, finds_many, slices, slices_bytes}
 pub use Rattle.stlslice_c.proofs.lemmas.Exported.{export_proved, begins, begins_with, enters, words, typed, told, locals_of, walk_ends}

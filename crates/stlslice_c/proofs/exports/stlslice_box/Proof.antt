@@ -1,5 +1,5 @@
 use Rattle.stlslice_c.proofs.lemmas.Walk.{ℕ, List, [], ◌∷◌, refl, w8, w32, w64, SProp, id⊢, ex_i, ◌$◌, !, by, keep, of_opd, alloc_all}
-use Rattle.stlslice_c.proofs.lemmas.Walk.{pass_all, free_all, get, sets, fact, u8, Testable, triple_of, ptr_good, Passed, handle, number, shared}
+use Rattle.stlslice_c.proofs.lemmas.Walk.{pass_all, free_all, get, sets, fact, u8, Testable, triple_of, ptr_good, Passed, allocator, number, shared}
 use Rattle.stlslice_c.proofs.lemmas.Walk.{filled, Places, answers_with, lifetimes_of, shares_of, values_of, machine_values, over, lefts, finder}
 use Rattle.stlslice_c.proofs.lemmas.Walk.{finds_one, finds_many, slices, slices_bytes, export_proved, begins_with, enters, words, typed, told}
 use Rattle.stlslice_c.proofs.lemmas.Walk.{locals_of, walk_ends}
@@ -25,7 +25,7 @@ stlslice_box_spec 𝓤 𝓛 𝓜 𝓡 wired =
     ∷ number w32 unit are.1.1.1.0.1 ∷ filled corners_row corners 1 corners-was ∷ filled u8 line line_room line-was
     ∷ number w64 line_room are.1.1.1.1.1.1.0.1 ∷ [] in
     begins_with ! alloc z.0.4.0 qs (Testable text × Testable corners × Testable line) (id⊢ 𝓤 _) (λ h is-h fits tests counts.
-    let ps : List (Passed 𝓛) = handle alloc h fits ∷ qs in
+    let ps : List (Passed 𝓛) = allocator alloc h fits ∷ qs in
     enters ! _ _ _ (words ps) _ (told ps z.0.4 are (is-h, tt)) $ alloc_all ! (λ l. pass_all ! refl (typed ps (locals_of code.function l) refl) $
     sets ! (of_opd ! (get ! refl)) refl (ptr_good text) $
     finds_many ! find u8 text text_size text-was counts.0 tests.0 are.1.1.0.1 tt tt refl refl refl refl (λ text-at.

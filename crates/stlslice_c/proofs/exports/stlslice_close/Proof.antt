@@ -1,6 +1,6 @@
 use Rattle.stlslice_c.proofs.lemmas.Walk.{List, [], ◌∷◌, refl, ap, Val, vunit, SProp, id⊢, ex_i, raw, ◌⊛◌, ◌$◌, !, by, keep, split, feq_l, feq_i}
 use Rattle.stlslice_c.proofs.lemmas.Walk.{of_opd, unit_lit, returns, alloc_all, pass_all, free_all, look_at, get, sets, lands_as, fact, unit}
-use Rattle.stlslice_c.proofs.lemmas.Walk.{Testable, heard, only, triple_of, ptr_good, Passed, handle, filled, Places, passes_on, lifetimes_of}
+use Rattle.stlslice_c.proofs.lemmas.Walk.{Testable, heard, only, triple_of, ptr_good, Passed, allocator, filled, Places, passes_on, lifetimes_of}
 use Rattle.stlslice_c.proofs.lemmas.Walk.{shares_of, values_of, machine_values, over, lefts, finder, finds_one, slices, export_proved, begins_with}
 use Rattle.stlslice_c.proofs.lemmas.Walk.{enters, words, typed, told, locals_of, walk_ends}
 use Rattle.stlslice_c.specs.contracts.handle.Handle.{the_row as handle_row}
@@ -21,7 +21,7 @@ stlslice_close_spec 𝓤 𝓛 𝓜 𝓡 wired =
     let mesh-was = z.1 in
     let qs : List (Passed 𝓛) = filled handle_row mesh 1 mesh-was ∷ [] in
     begins_with ! alloc z.0.4.0 qs (Testable mesh) (id⊢ 𝓤 _) (λ h is-h fits tests counts.
-    let ps : List (Passed 𝓛) = handle alloc h fits ∷ qs in
+    let ps : List (Passed 𝓛) = allocator alloc h fits ∷ qs in
     enters ! _ _ _ (words ps) _ (told ps z.0.4 are (is-h, tt)) $ alloc_all ! (λ l. pass_all ! refl (typed ps (locals_of code.function l) refl) $
     sets ! (of_opd ! (get ! refl)) refl (ptr_good mesh) $ finds_one ! find handle_row mesh mesh-was counts.0 tests tt tt refl refl refl (λ mesh-at.
     slices ! mesh-at refl tt tt refl $

@@ -1,5 +1,5 @@
 use Rattle.stlslice_c.proofs.lemmas.Walk.{ℕ, List, [], ◌∷◌, refl, w32, w64, SProp, id⊢, ex_i, ◌$◌, !, by, keep, of_opd, alloc_all, pass_all}
-use Rattle.stlslice_c.proofs.lemmas.Walk.{free_all, get, sets, fact, usize, Testable, triple_of, ptr_good, Passed, handle, number, to_read, filled}
+use Rattle.stlslice_c.proofs.lemmas.Walk.{free_all, get, sets, fact, usize, Testable, triple_of, ptr_good, Passed, allocator, number, to_read, filled}
 use Rattle.stlslice_c.proofs.lemmas.Walk.{Places, answers_with, lifetimes_of, shares_of, values_of, machine_values, over, lefts, finder, finds_one}
 use Rattle.stlslice_c.proofs.lemmas.Walk.{finds_many, slices, export_proved, begins_with, enters, words, typed, told, locals_of, walk_ends}
 use Rattle.stlslice_c.specs.contracts.handle.Handle.{the_row as handle_row}
@@ -27,7 +27,7 @@ stlslice_loops_spec 𝓤 𝓛 𝓜 𝓡 wired =
     ∷ number w64 ends_room are.1.1.1.1.1.1.1.0.1 ∷ filled usize loops_count 1 loops_count-was ∷ [] in
     begins_with ! alloc z.0.4.0 qs (Testable mesh × Testable points × Testable points_count × Testable ends × Testable loops_count) (id⊢ 𝓤 _)
     (λ h is-h fits tests counts.
-    let ps : List (Passed 𝓛) = handle alloc h fits ∷ qs in
+    let ps : List (Passed 𝓛) = allocator alloc h fits ∷ qs in
     enters ! _ _ _ (words ps) _ (told ps z.0.4 are (is-h, tt)) $ alloc_all ! (λ l. pass_all ! refl (typed ps (locals_of code.function l) refl) $
     sets ! (of_opd ! (get ! refl)) refl (ptr_good mesh) $ finds_one ! find handle_row mesh mesh-was counts.0 tests.0 tt tt refl refl refl (λ mesh-at.
     sets ! (of_opd ! (get ! refl)) refl (ptr_good points) $

@@ -1,5 +1,5 @@
 use Rattle.stlslice_c.proofs.lemmas.Walk.{ℕ, List, [], ◌∷◌, refl, w32, w64, SProp, id⊢, ex_i, ◌$◌, !, by, keep, of_opd, alloc_all, pass_all}
-use Rattle.stlslice_c.proofs.lemmas.Walk.{free_all, get, sets, fact, u8, u32, Testable, triple_of, ptr_good, Passed, handle, number, shared, filled}
+use Rattle.stlslice_c.proofs.lemmas.Walk.{free_all, get, sets, fact, u8, u32, Testable, triple_of, ptr_good, Passed, allocator, number, shared, filled}
 use Rattle.stlslice_c.proofs.lemmas.Walk.{Places, answers_with, lifetimes_of, shares_of, values_of, machine_values, over, lefts, finder, finds_one}
 use Rattle.stlslice_c.proofs.lemmas.Walk.{finds_many, slices, slices_bytes, export_proved, begins_with, enters, words, typed, told, locals_of}
 use Rattle.stlslice_c.proofs.lemmas.Walk.{walk_ends}
@@ -36,7 +36,7 @@ stlslice_open_mesh_spec 𝓤 𝓛 𝓜 𝓡 wired =
     ∷ number w64 line_room are.1.1.1.1.1.1.1.1.1.0.1 ∷ [] in
     begins_with ! alloc z.0.4.0 qs (Testable points × Testable triangles × Testable options × Testable mesh × Testable shape × Testable line) (id⊢ 𝓤 _)
     (λ h is-h fits tests counts.
-    let ps : List (Passed 𝓛) = handle alloc h fits ∷ qs in
+    let ps : List (Passed 𝓛) = allocator alloc h fits ∷ qs in
     enters ! _ _ _ (words ps) _ (told ps z.0.4 are (is-h, tt)) $ alloc_all ! (λ l. pass_all ! refl (typed ps (locals_of code.function l) refl) $
     sets ! (of_opd ! (get ! refl)) refl (ptr_good points) $
     finds_many ! find (Array i32 3) points point_count points-was counts.0 tests.0 are.1.1.0.1 tt tt refl refl refl refl (λ points-at.
