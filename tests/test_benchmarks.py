@@ -42,7 +42,7 @@ class Benchmarks(Case):
     def test_a_table_beside_another_slicer_has_ratios(self):
         ran = self.room.done(TABLE, PROGRAM, PROGRAM, "--about=It is the same.", *FEW)
         (_, *cells), = rows(ran.out)
-        assert all(re.fullmatch(r"\d+\.\d{3} s, \d+ MiB \(\d+\.\d\d, \d\.\d\)", it) for it in cells), cells
+        assert all(re.fullmatch(r"\d+\.\d{3} s, \d+ MiB \(\d+\.\d\d, \d\.\d\d\)", it) for it in cells), cells
         assert " That slicer writes the same bytes. It is the same.\n" in ran.out, "it doesn't say what the other one is"
 
     def test_a_slicer_that_writes_other_bytes_is_refused(self):
