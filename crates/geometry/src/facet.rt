@@ -30,7 +30,7 @@ impl Facet {
     pub fn of(a: Point, b: Point, c: Point) -> Facet
         ensures { result ≡ facet_with a b c }
     {
-        Facet([a, b, c])
+        Facet([a.by_coordinates(), b.by_coordinates(), c.by_coordinates()])
     }
 
     /// The corner with this number, which is 0, 1 or 2.
