@@ -17,32 +17,6 @@ returns-then-is_up_ahead-is_down_ahead c =
     let not_crossed = simp to_z-of_z at (same_side _ _ _ _ l _ _ c.is_ahead-is_down_ahead.ensures c.is_ahead-is_up_ahead.ensures same) in
     record { crosses = not_crossed; some = (λ h. absurd (cc), λ some. absurd (some not_crossed)); in_plane = tt }
 
-pub of-requires : goal.of-requires
-of-requires c =
-    let m = c.meet-num in
-    let w = up_alone _ _ _ _ c.in_ok-ends.ensures _ _ c.is_ahead-is_down_ahead.ensures c.is_ahead-is_up_ahead.ensures
-    c.if-is_up_ahead-is_down_ahead.false c.if-is_up_ahead.true in
-    let f1 : FitsSigned w128 m.result.1 = fits w128 (size_known m.ensures.den_in) refl in
-    record {
-      unit = inl refl;
-      den_positive = simp to_z-of_z (subst (λ d. pos 0 <ℤ d) (sym m.ensures.den) w.den_positive);
-      num_in = stored_in w128 m.result.0 m.ensures.num_in;
-      den_in = stored_in w128 m.result.1 m.ensures.den_in;
-    }
-
-pub of-requires-else-is_up_ahead : goal.of-requires-else-is_up_ahead
-of-requires-else-is_up_ahead c =
-    let m = c.meet-num-else-is_up_ahead in
-    let w = down_alone _ _ _ _ c.in_ok-ends.ensures _ _ c.is_ahead-is_down_ahead.ensures c.is_ahead-is_up_ahead.ensures
-    c.if-is_up_ahead-is_down_ahead.false c.if-is_up_ahead.false in
-    let f1 : FitsSigned w128 m.result.1 = fits w128 (size_known m.ensures.den_in) refl in
-    record {
-      unit = inr refl;
-      den_positive = simp to_z-of_z (subst (λ d. pos 0 <ℤ d) (sym m.ensures.den) w.den_positive);
-      num_in = stored_in w128 m.result.0 m.ensures.num_in;
-      den_in = stored_in w128 m.result.1 m.ensures.den_in;
-    }
-
 pub returns-then-is_up_ahead : goal.returns-then-is_up_ahead
 returns-then-is_up_ahead c =
     let m = c.meet-num in
@@ -80,3 +54,29 @@ pub returns-in_err-ends : goal.returns-in_err-ends
 returns-in_err-ends c =
     let not_crossed = uncrossed (twice c.args.f.now) c.args.y2 (to_z-of_z w64 c.args.z2 c.ranges.z2) (c.in_err-ends.ensures c.args.y2) in
     rw c.from_residual.ensures (record { crosses = not_crossed; some = (λ h. absurd (cc), λ some. absurd (some not_crossed)); in_plane = tt })
+
+pub of-requires : goal.of-requires
+of-requires c =
+    let m = c.meet-num in
+    let w = up_alone _ _ _ _ c.in_ok-ends.ensures _ _ c.is_ahead-is_down_ahead.ensures c.is_ahead-is_up_ahead.ensures
+    c.if-is_up_ahead-is_down_ahead.false c.if-is_up_ahead.true in
+    let f1 : FitsSigned w128 m.result.1 = fits w128 (size_known m.ensures.den_in) refl in
+    record {
+      unit = inl refl;
+      den_positive = simp to_z-of_z (subst (λ d. pos 0 <ℤ d) (sym m.ensures.den) w.den_positive);
+      num_in = stored_in w128 m.result.0 m.ensures.num_in;
+      den_in = stored_in w128 m.result.1 m.ensures.den_in;
+    }
+
+pub of-requires-else-is_up_ahead : goal.of-requires-else-is_up_ahead
+of-requires-else-is_up_ahead c =
+    let m = c.meet-num-else-is_up_ahead in
+    let w = down_alone _ _ _ _ c.in_ok-ends.ensures _ _ c.is_ahead-is_down_ahead.ensures c.is_ahead-is_up_ahead.ensures
+    c.if-is_up_ahead-is_down_ahead.false c.if-is_up_ahead.false in
+    let f1 : FitsSigned w128 m.result.1 = fits w128 (size_known m.ensures.den_in) refl in
+    record {
+      unit = inr refl;
+      den_positive = simp to_z-of_z (subst (λ d. pos 0 <ℤ d) (sym m.ensures.den) w.den_positive);
+      num_in = stored_in w128 m.result.0 m.ensures.num_in;
+      den_in = stored_in w128 m.result.1 m.ensures.den_in;
+    }
