@@ -7,6 +7,5 @@ pub mod Pngs
 pub mod Put
 pub mod Slicing
 pub mod Stream
-pub mod Unwritten
 pub mod WrittenPixels
 pub mod WrittenFiles

@@ -151,6 +151,12 @@ few-bytes job held grid same of given =
     let limits : IsGrid job.grid = subst IsGrid (of ∙ ap (λ (j : Job). j.grid) same) given in
     small-images job.grid job.rule job.solid.facets limits.columns_high limits.rows_high limits.layers_high
 
+-- and so can what is out of them and what a chunk holds
+pub held_few : (job held : Job) (grid : Grid) (old now : Option (List ℕ)) (sent : ℕ) (chunk rest : List ℕ) → held ≡ job → grid ≡ held.grid → IsGrid grid
+    → IsUnderWay old now (images_of job) 0 sent chunk rest → sent + length chunk ≤ images_limit
+held_few job held grid old now sent chunk rest same of given text =
+    omega (arith, few-bytes job held grid same of given, all-counted old now (images_of job) 0 sent chunk rest text)
+
 -- what is out and what goes out next can be counted
 pub next-counted : (old now : Option (List ℕ)) (text : List ℕ) (written : ℕ) (part left : List ℕ) → length text ≤ greatest_count
     → IsUnderWay old now text 0 written part left → written + length part ≤ greatest_count

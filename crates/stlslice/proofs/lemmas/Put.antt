@@ -4,16 +4,16 @@ use Rattle.std.specs.Prelude.{Bool, true, Err, IfErr, IsErrAnd, Ok, OnOk, Result
 use Rattle.std.specs.Io.KnownBytes.{Appends, Keeps}
 use Rattle.std.proofs.KnownBytes.{Appends-kept}
 use Rattle.std.proofs.lemmas.List.{drop_all, take_all}
-use Rattle.std.proofs.lemmas.Result.{on_ok_weaker}
+use Rattle.std.proofs.lemmas.Result.{IfErr-weaker, on_ok_weaker}
 use Rattle.devices.specs.Devices.{AppendsFirst, Fails}
 use Rattle.devices.specs.declared.writing.WriteFault.{WriteFault}
 use Rattle.raster.proofs.lemmas.Written.{IsUnderWay, all-counted, all-out, more-out, moved, taken-on, written-within}
+use Rattle.devices.specs.Sent.{IsCutOff}
 use Rattle.devices.specs.Transcript.{Transcript, transcript}
 use Rattle.stlslice.specs.Put.{IsPut}
 use Rattle.stlslice.specs.Writing.{IsMadeAndWritten, IsUntouched, IsUnwritten, IsWritten}
 use Rattle.stlslice.specs.declared.run_fault.RunFault.{RunFault}
 use Rattle.stlslice.specs.declared.run_fault.RunFault.TheVariants as fault
-use Rattle.stlslice.proofs.lemmas.Unwritten.{flush_failed}
 
 -- the next part is to go out
 pub with-part : (old now : Option (List ℕ)) (text : List ℕ) (before written : ℕ) (part rest left : List ℕ)
@@ -107,6 +107,17 @@ put-last (Ok total) sink now count text before written part h same put = record 
 }
 put-last (Err f) sink now count text before written part h same put = put-failed f sink now count text before written part [] h same put
 
+-- all of a text is out, but its flush failed
+flush_failed : {T : Type 0} (r : Result T RunFault) (sink : Transcript) (text : List ℕ) (put : Option (List ℕ)) (written count : ℕ)
+    → Appends sink.old put text → Keeps put sink.new → written ≡ length text → count ≡ sink.failed_before
+    → IfErr r (λ f. (f ≡ fault.Write written) × Fails count sink.failed) → IfErr r (IsUnwritten sink text)
+flush_failed r sink text put written count out kept whole same =
+    let first : AppendsFirst sink.old sink.new written text =
+    subst (λ (l : List ℕ). Appends sink.old sink.new l) (sym (take_all written text (omega (arith, whole))))
+    (Appends-kept sink.old put sink.new text out kept) in
+    IfErr-weaker r (λ f. (f ≡ fault.Write written) × Fails count sink.failed) (IsUnwritten sink text)
+    (λ f h. (written, h.0, omega (arith, whole), first, subst (λ (n : ℕ). Fails n sink.failed) same h.1))
+
 -- A whole text that was put is flushed, or not.
 pub written-all : {T : Type 0} (r : Result T RunFault) (sink : Transcript) (is_settled : Bool) (text : List ℕ) (put : Option (List ℕ)) (count written : ℕ)
     → IsPut (Ok written) (transcript sink.old put sink.failed_before count) text 0 → OnOk r (is_settled ≡ true) → Keeps put sink.new
@@ -131,11 +142,14 @@ written-early (Err x) sink is_settled text f h is =
       err = (f.written, is, omega (arith, h.err.high), rw all at h.err.out, h.err.failed);
     }
 
--- the same where its fault is known
-pub written-not : {T : Type 0} (P : RunFault → Type 0) (r : Result T RunFault) (sink : Transcript) (is_settled : Bool) (text : List ℕ)
-    → IsErrAnd r P → IfErr r (IsUnwritten sink text) → IsWritten r sink is_settled text
-written-not P (Ok x) sink is_settled text is h = absurd is
-written-not P (Err f) sink is_settled text is h = record { flushed = tt; ok = tt; same = tt; err = h }
+-- the same where a part of it was cut off
+pub written-part : {T : Type 0} (r : Result T RunFault) (f : WriteFault) (sink : Transcript) (is_settled : Bool) (now : Option (List ℕ)) (count : ℕ)
+    (text : List ℕ) (written : ℕ) (part rest : List ℕ) → IsUnderWay sink.old now text 0 written part rest → count ≡ sink.failed_before
+    → IsCutOff (transcript now sink.new count sink.failed) part written f.written → IsErrAnd r (λ x. x ≡ fault.Write f.written)
+    → IsWritten r sink is_settled text
+written-part r f sink is_settled now count text written part rest h same cut =
+    written-early r sink is_settled text f
+    (put-failed f sink now count text 0 written part rest h same (record { ok = tt; total = tt; same = tt; err = cut }))
 
 -- A text that took memory was written, or there was none.
 

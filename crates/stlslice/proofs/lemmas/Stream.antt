@@ -96,22 +96,19 @@ images-begun job now =
     subst (λ (l : List ℕ). IsUnderWay now now all 0 0 [] l) same (begun now 0 [] all)
 
 -- after the last layer
-pub none_left : (job : Job) (k : ℕ) → job.grid.layers ≤ k → images_from job k ≡ []
+none_left : (job : Job) (k : ℕ) → job.grid.layers ≤ k → images_from job k ≡ []
 none_left job k h =
     let none : job.grid.layers - k ≡ 0 = omega (arith, h) in
     ap (λ (n : ℕ). flat_map (layer_image job.grid job.rule job.solid.facets) (range_with_len k n)) none
 
--- a writer's bytes once it is to add the next image
-pub with_image : (job : Job) (k sent : ℕ) (old now : Option (List ℕ)) (held next : List ℕ) → k < job.grid.layers
-    → next ≡ layer_image job.grid job.rule job.solid.facets k
+-- what is held is then the rest of all images
+pub last_held : (job : Job) (old now : Option (List ℕ)) (sent k : ℕ) (held : List ℕ) → job.grid.layers ≤ k
     → IsUnderWay old now (images job.grid job.rule job.solid.facets) 0 sent held (images_from job k)
-    → IsUnderWay old now (images job.grid job.rule job.solid.facets) 0 sent (held ++ next) (images_from job (k + 1))
-with_image job k sent old now held next h is text =
-    taken-on old now (images job.grid job.rule job.solid.facets) 0 sent held (held ++ next)
-    (layer_image job.grid job.rule job.solid.facets k) (images_from job (k + 1)) (images_from job k)
-    text (image_next job k h) (ap (λ (l : List ℕ). held ++ l) is)
+    → IsUnderWay old now (images job.grid job.rule job.solid.facets) 0 sent held []
+last_held job old now sent k held end text =
+    subst (λ (left : List ℕ). IsUnderWay old now (images job.grid job.rule job.solid.facets) 0 sent held left) (none_left job k end) text
 
--- the same, by the build's grid and layers as they were handed out
+-- by the build's grid and layers as they were handed out
 
 pub image_there : (job held : Job) (grid : Grid) (spans : List Span) (layers xs : List Layer) (i : ℕ) (x : Layer) → held ≡ job
     → grid ≡ held.grid → spans ≡ x.spans → xs ≡ layers → IsComplete job layers → i < length xs → x ≡ slice_index_or xs i x
@@ -124,6 +121,17 @@ image_there job held grid spans layers xs i x same of spans-are same_layers comp
 pub layer_below : (job : Job) (layers xs : List Layer) (i : ℕ) → xs ≡ layers → IsComplete job layers → i < length xs → i < job.grid.layers
 layer_below job layers xs i same complete h =
     subst (λ (n : ℕ). i < n) (ap (λ (l : List Layer). length l) same ∙ complete.whole) h
+
+-- a writer's bytes once it is to add the image of the next layer
+pub with_image : (job held : Job) (grid : Grid) (spans : List Span) (layers xs : List Layer) (k : ℕ) (x : Layer) (old now : Option (List ℕ)) (sent : ℕ)
+    (chunk : List ℕ) → held ≡ job → grid ≡ held.grid → spans ≡ x.spans → xs ≡ layers → IsComplete job layers → k < length xs → x ≡ slice_index_or xs k x
+    → IsUnderWay old now (images job.grid job.rule job.solid.facets) 0 sent chunk (images_from job k)
+    → IsUnderWay old now (images job.grid job.rule job.solid.facets) 0 sent (chunk ++ image grid spans) (images_from job (k + 1))
+with_image job held grid spans layers xs k x old now sent chunk same of spans-are same_layers complete h is text =
+    let here = image_there job held grid spans layers xs k x same of spans-are same_layers complete h is in
+    taken-on old now (images job.grid job.rule job.solid.facets) 0 sent chunk (chunk ++ image grid spans)
+    (layer_image job.grid job.rule job.solid.facets k) (images_from job (k + 1)) (images_from job k)
+    text (image_next job k (layer_below job layers xs k same_layers complete h)) (ap (λ (l : List ℕ). chunk ++ l) here)
 
 pub layers_end : (job : Job) (layers xs : List Layer) (i : ℕ) → xs ≡ layers → IsComplete job layers → length xs ≤ i → job.grid.layers ≤ i
 layers_end job layers xs i same complete h =
