@@ -210,7 +210,7 @@ def cells(about):
             f"turns: below 1 the program is better. That slicer writes the same bytes. {about}").rstrip()
 
 
-def head(program, commit, about, runs):
+def head(program, revision, about, runs):
     """The lines of the page before its table."""
     version = subprocess.run([program, "--version"], stdout=subprocess.PIPE, text=True, check=True).stdout.split(" (")[0]
     return f"""# Benchmarks
@@ -219,7 +219,7 @@ def head(program, commit, about, runs):
 
 Memory below {resource.getrusage(resource.RUSAGE_SELF).ru_maxrss / 1024:.0f} MiB is that of the script. The command `make bench` times the program on your machine.
 
-- Program: {version}, commit {commit}
+- Program: {version}, commit {revision}
 - Machine: {machine()}
 - Date: {datetime.date.today()}
 
@@ -254,10 +254,10 @@ def main():
     for program in programs:
         if not os.access(program, os.X_OK):
             sys.exit(f"bench/table.py: {program} is no program: build it with make")
-    at = commit()
+    revision = commit()
     with tempfile.TemporaryDirectory() as folder:
         rows = [row(case, programs, words.runs, folder) for case in CASES if not words.case or case.name in words.case]
-    print(head(programs[0], at, words.about if words.other else None, words.runs), *rows, sep="\n")
+    print(head(programs[0], revision, words.about if words.other else None, words.runs), *rows, sep="\n")
     if not words.case:
         print("", "## PNGs", "", PNGS, "", *pngs.table(programs[0], runs=words.runs), sep="\n")
 

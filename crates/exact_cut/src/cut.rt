@@ -97,6 +97,7 @@ pub(crate) fn finish_of(f: &Facet, edge: usize) -> HalfPoint
     requires { edge < 3 }
     ensures { point_of result ≡ finish (twice f.now) edge }
 {
-    // The compiler needs no branch for this: which edge it is follows no pattern in a mesh.
+    // The compiler needs no branch for this. The processor would often predict one wrongly, since which edge it is follows no
+    // pattern in a mesh.
     corner_at(f, if edge < 2 { edge + 1 } else { 0 })
 }

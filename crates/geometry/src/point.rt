@@ -52,8 +52,8 @@ impl Point {
         Point { x, y, z }
     }
 
-    /// The same point, copied one coordinate after another. A point that is copied whole is stored as 8 bytes and 4. A facet of
-    /// such points is then copied by a load of 16, which waits for these stores.
+    /// The same point, copied one coordinate after another. If points are copied whole, each is stored as 8 bytes and 4. Then a
+    /// facet of them is copied by a load of 16 bytes, which waits for these stores.
     #[inline(always)]
     pub(crate) fn by_coordinates(&self) -> Point
         ensures { result ≡ self.now }

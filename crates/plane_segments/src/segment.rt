@@ -68,7 +68,8 @@ fn edge_node(corners: &[u32; 3], edge: usize) -> Node
     ensures node { result ≡ edge_node corners.now edge }
     ensures ordered { result.low < result.high }
 {
-    // The compiler needs no branch for this: which edge it is follows no pattern in a mesh.
+    // The compiler needs no branch for this. The processor would often predict one wrongly, since which edge it is follows no
+    // pattern in a mesh.
     let end = if edge < 2 { edge + 1 } else { 0 };
     Node::between(corners[edge], corners[end])
 }

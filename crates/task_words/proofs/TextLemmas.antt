@@ -115,14 +115,7 @@ count_read {E} text (Err e) h plain short = go (is_numeral text) refl
         let fits : digits_value 10 (without_leading_plus text) < 2 ^ 32 = rw same (omega arith) in
         absurd (h (subst (IsNumeral 10) (sym same) numeral, fits))
 
--- what is too long, or begins with a plus, is no number
-pub count_long : (text : List ℕ) → 9 < length text → None ≡ count_in text
-count_long text long = rw (lt-leb (length text) 9 long) (go (is_numeral text))
-  where
-    go : (b : Bool) → None ≡ cond (b && false) (Some (digits_value 10 text)) None
-    go true = refl
-    go false = refl
-
+-- what begins with a plus is no number
 plus_no_number : (text : List ℕ) → (slice_index text 0 == 43) ≡ true → is_numeral text ≡ false
 plus_no_number [] e = cc
 plus_no_number (x ∷ xs) e = subst (λ c. is_numeral (c ∷ xs) ≡ false) (sym (eqb-true x 43 e)) (last _)

@@ -24,23 +24,6 @@ no_more_named n ids = record {
   few = omega arith;
 }
 
-pub named_further : {A : Type 0} (first then last : Names A) (ids more all : List (List ℕ)) (facets others : List Facet)
-    → AreNamedMore first ids facets then more → AreNamedMore then more others last all → AreNamedMore first ids (facets ++ others) last all
-named_further first then last ids more all facets others one two = record {
-  named = λ before own. two.named before (one.named before own);
-  added = λ before own.
-      two.added before (one.named before own)
-      ∙ ap (λ (l : List Facet). l ++ kept_facets others) (one.added before own)
-      ∙ append_assoc (facets_by first.points.items (before ++ ids)) (kept_facets facets) (kept_facets others)
-      ∙ ap (λ (l : List Facet). facets_by first.points.items (before ++ ids) ++ l) (sym (filter-append is_kept facets others));
-  degenerate =
-      two.degenerate
-      ∙ ap (λ (l : List Facet). l ++ degenerate_facets others) one.degenerate
-      ∙ append_assoc first.degenerate.items (degenerate_facets facets) (degenerate_facets others)
-      ∙ ap (λ (l : List Facet). first.degenerate.items ++ l) (sym (filter-append (λ t. not (is_kept t)) facets others));
-  few = omega (arith, one.few, two.few, length-append facets others);
-}
-
 -- a facet with three distinct corners, whose ids come last
 pub one_named : {A : Type 0} (old new : Names A) (ids : List (List ℕ)) (t : Facet) (own : List ℕ) → is_kept t ≡ true
     → IsNamedFacet old.points.items t new.points.items own → new.degenerate.items ≡ old.degenerate.items → AreNamedMore old ids (t ∷ []) new (ids ++ own ∷ [])

@@ -1,5 +1,5 @@
 -- Worked rules, cells and bytes of images.
-use Rattle.std.proofs.Common.{◌≡◌, ℕ, ◌==◌, ◌∷◌, [], refl, true, false}
+use Rattle.std.proofs.Common.{◌≡◌, ◌==◌, ◌∷◌, [], refl, true, false}
 use Rattle.std.specs.Prelude.{pos, negsuc}
 use Rattle.raster.specs.Grid.{cell_count, exceeds, middle}
 use Rattle.raster.specs.Image.{packed_byte, row_bytes}

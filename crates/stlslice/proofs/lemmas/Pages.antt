@@ -151,10 +151,10 @@ few-bytes job held grid same of given =
     let limits : IsGrid job.grid = subst IsGrid (of ∙ ap (λ (j : Job). j.grid) same) given in
     small-images job.grid job.rule job.solid.facets limits.columns_high limits.rows_high limits.layers_high
 
--- and so can what is out of them and what a chunk holds
-pub held_few : (job held : Job) (grid : Grid) (old now : Option (List ℕ)) (sent : ℕ) (chunk rest : List ℕ) → held ≡ job → grid ≡ held.grid → IsGrid grid
+-- what is out of these images, and what a chunk holds, can be counted too
+pub held-counted : (job held : Job) (grid : Grid) (old now : Option (List ℕ)) (sent : ℕ) (chunk rest : List ℕ) → held ≡ job → grid ≡ held.grid → IsGrid grid
     → IsUnderWay old now (images_of job) 0 sent chunk rest → sent + length chunk ≤ images_limit
-held_few job held grid old now sent chunk rest same of given text =
+held-counted job held grid old now sent chunk rest same of given text =
     omega (arith, few-bytes job held grid same of given, all-counted old now (images_of job) 0 sent chunk rest text)
 
 -- what is out and what goes out next can be counted

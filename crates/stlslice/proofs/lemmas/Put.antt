@@ -107,7 +107,7 @@ put-last (Ok total) sink now count text before written part h same put = record 
 }
 put-last (Err f) sink now count text before written part h same put = put-failed f sink now count text before written part [] h same put
 
--- all of a text is out, but its flush failed
+-- all of a text is out: what is told if its flush fails
 flush_failed : {T : Type 0} (r : Result T RunFault) (sink : Transcript) (text : List ℕ) (put : Option (List ℕ)) (written count : ℕ)
     → Appends sink.old put text → Keeps put sink.new → written ≡ length text → count ≡ sink.failed_before
     → IfErr r (λ f. (f ≡ fault.Write written) × Fails count sink.failed) → IfErr r (IsUnwritten sink text)

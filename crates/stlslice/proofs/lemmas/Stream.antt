@@ -108,7 +108,7 @@ pub last_held : (job : Job) (old now : Option (List ℕ)) (sent k : ℕ) (held :
 last_held job old now sent k held end text =
     subst (λ (left : List ℕ). IsUnderWay old now (images job.grid job.rule job.solid.facets) 0 sent held left) (none_left job k end) text
 
--- by the build's grid and layers as they were handed out
+-- the image of a layer, by the build's grid and layers as they were handed out
 
 pub image_there : (job held : Job) (grid : Grid) (spans : List Span) (layers xs : List Layer) (i : ℕ) (x : Layer) → held ≡ job
     → grid ≡ held.grid → spans ≡ x.spans → xs ≡ layers → IsComplete job layers → i < length xs → x ≡ slice_index_or xs i x
@@ -122,7 +122,7 @@ pub layer_below : (job : Job) (layers xs : List Layer) (i : ℕ) → xs ≡ laye
 layer_below job layers xs i same complete h =
     subst (λ (n : ℕ). i < n) (ap (λ (l : List Layer). length l) same ∙ complete.whole) h
 
--- a writer's bytes once it is to add the image of the next layer
+-- a writer's bytes with the image of the next layer, which it is to add
 pub with_image : (job held : Job) (grid : Grid) (spans : List Span) (layers xs : List Layer) (k : ℕ) (x : Layer) (old now : Option (List ℕ)) (sent : ℕ)
     (chunk : List ℕ) → held ≡ job → grid ≡ held.grid → spans ≡ x.spans → xs ≡ layers → IsComplete job layers → k < length xs → x ≡ slice_index_or xs k x
     → IsUnderWay old now (images job.grid job.rule job.solid.facets) 0 sent chunk (images_from job k)

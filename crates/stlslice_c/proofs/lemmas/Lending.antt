@@ -140,7 +140,7 @@ module _ {M : Type 1} {𝓤 : Ura M} (𝓛 : Logic 𝓤) (R : RattleType) (laws 
   seen_side p (block_ptr b o) [] (inl e) = qed 𝓛 (‵ (seen_side_by_side R κ p []) ∷ []) ∵ drop ! $ nothing ! $ done !
   seen_side p (block_ptr b o) (x ∷ xs) (inl e) = absurd (no_item x xs e)
 
--- n values have room
+-- the values at a pointer have room, whatever number C tells
 pub rooms : (R : RattleType) (m : ℕ) (p : Ptr) (n : ℕ) → m ≡ count_at (mem R).size p n → Room R m
 rooms R m p n e =
     let size : ℕ = (mem R).size in

@@ -5,7 +5,7 @@ use Rattle.raster.proofs.lemmas.Written.{IsUnderWay, moved}
 use Rattle.devices.specs.Transcript.{Transcript, transcript_of}
 use Rattle.build_book.specs.Job.{Job}
 use Rattle.stlslice.specs.Pages.{images_of}
-use Rattle.stlslice.proofs.lemmas.Pages.{held_few}
+use Rattle.stlslice.proofs.lemmas.Pages.{held-counted}
 use Rattle.stlslice.proofs.lemmas.Put.{put-last, written-all, written-part}
 use Rattle.stlslice.proofs.lemmas.Stream.{images-begun, images_from, last_held, layer_at, layers_end, with_image}
 use Rattle.stlslice.proofs.write.images.write_images.Goals as goal
@@ -28,7 +28,7 @@ add-requires-clause-form g c =
 
 pub add-requires-clause-count : goal.add-requires-clause-count
 add-requires-clause-count g c =
-    let held = held_few c.args.build.now.job c.job.result.now c.grid-grid.result.now _ _ c.loop-layer.writer.sent c.loop-layer.writer.held _
+    let held = held-counted c.args.build.now.job c.job.result.now c.grid-grid.result.now _ _ c.loop-layer.writer.sent c.loop-layer.writer.held _
     c.job.ensures c.grid-grid.ensures c.hold_limits.ensures c.loop-layer.invariant.text in
     omega (arith, held)
 
@@ -61,7 +61,7 @@ returns-in_err-add g c =
 
 pub finish-requires : goal.finish-requires
 finish-requires g c =
-    let held = held_few c.args.build.now.job c.job.result.now c.grid-grid.result.now _ _ c.loop-layer.writer.sent c.loop-layer.writer.held _
+    let held = held-counted c.args.build.now.job c.job.result.now c.grid-grid.result.now _ _ c.loop-layer.writer.sent c.loop-layer.writer.held _
     c.job.ensures c.grid-grid.ensures c.hold_limits.ensures c.loop-layer.invariant.text in
     omega (arith, held)
 
