@@ -23,7 +23,7 @@ class Library(Case):
         super().setUp()
         self.beside = os.path.dirname(library())
 
-    def made(self, name):  # a symbolic link is left out here, and so the comparison of names fails if there is one
+    def made(self, name):  # without symbolic links: if there is one, its name is missed below
         proved = os.path.join(self.beside, "proved.a")
         told = self.room.out("library/build", "native", proved, self.room.file(name), version(), "/usr/local")
         same(told, "", "what library/build says")
